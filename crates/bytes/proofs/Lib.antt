@@ -1,0 +1,11 @@
+pub mod Runs
+pub mod Classing
+pub mod Moves
+pub mod Quotes
+pub mod Unique
+pub mod Steps
+pub mod Laying
+pub mod Shaping
+pub mod Faulting
+pub mod Determining
+pub mod ByLine

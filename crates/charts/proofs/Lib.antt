@@ -1,0 +1,14 @@
+pub mod Sound
+pub mod Complete
+pub mod Links
+pub mod Decomposing
+pub mod Readable
+pub mod Roots
+pub mod Stable
+pub mod Closure
+pub mod Turns
+pub mod Room
+pub mod KeyOrder
+pub mod Keys
+pub mod Cycles
+pub mod Deciding

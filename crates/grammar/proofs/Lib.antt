@@ -1,0 +1,4 @@
+pub mod Rounds
+pub mod Nulling
+pub mod Stepping
+pub mod Reaching

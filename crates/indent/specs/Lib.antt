@@ -1,0 +1,3 @@
+pub mod Relations
+pub mod Summaries
+pub mod Codes

@@ -1,0 +1,7 @@
+mod Wording
+mod Numbering
+mod Hexing
+mod Placing
+mod Comparing
+mod Ruling
+mod Requesting

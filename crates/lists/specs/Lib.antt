@@ -1,0 +1,5 @@
+pub mod Entries
+pub mod Members
+pub mod Exactly
+pub mod Begins
+pub mod Tallies

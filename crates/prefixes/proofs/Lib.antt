@@ -1,0 +1,12 @@
+pub mod Prefixed
+pub mod Steps
+pub mod Settling
+pub mod Nests
+pub mod Computed
+pub mod Stacks
+pub mod Onwards
+pub mod Deriving
+pub mod Ends
+pub mod Climbing
+pub mod Tables
+pub mod Leaving

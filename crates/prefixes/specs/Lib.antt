@@ -1,0 +1,6 @@
+pub mod Walk
+pub mod Stacks
+pub mod Walking
+pub mod Onward
+pub mod Tables
+pub mod Claims
