@@ -1,4 +1,5 @@
-// Reads commands from standard input, one to a line, and answers each on standard output.
+// Reads commands from standard input, one to a line, and answers each on standard output. The answers of a line are
+// written out before the next line is waited for.
 use lines::answer::Answer;
 use lines::answer::AnswerDisplay;
 use lines::answer::Reason;
@@ -8,6 +9,8 @@ use std::error::AnyError;
 use std::io::BufRead;
 use std::io::BufReadMethods;
 use std::io::BufReader;
+use std::io::BufWriter;
+use std::io::Write;
 
 // The line without its line feed.
 fn content(line: &[u8]) -> &[u8] {
@@ -24,6 +27,7 @@ fn main(rt: LibcRuntime) -> Result<(), AnyError> {
         Err(_) => return Err("out of memory".into()),
     };
     let mut input = BufReader::new(rt.stdin());
+    let mut output = BufWriter::new(rt.stdout());
     let mut line = Vec::new(heap);
     for number in 1..u64::MAX {
         line.clear();
@@ -33,7 +37,7 @@ fn main(rt: LibcRuntime) -> Result<(), AnyError> {
         match respond_to(heap, &mut session, number, content(&line)) {
             Ok(answers) => {
                 for answer in answers.iter() {
-                    println!(rt, "{answer}")?;
+                    writeln!(output, "{answer}")?;
                 }
             }
             Err(_) => {
@@ -41,9 +45,10 @@ fn main(rt: LibcRuntime) -> Result<(), AnyError> {
                     line: number,
                     reason: Reason::NoMemory,
                 };
-                println!(rt, "{answer}")?;
+                writeln!(output, "{answer}")?;
             }
         }
+        output.flush()?;
     }
     Ok(())
 }

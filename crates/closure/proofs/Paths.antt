@@ -50,9 +50,6 @@ passing-more table out k i new b p t o = record { size = simp length-set (p .siz
         let g : has new j ≡ (has (getD table a 0) j || has (getD table k 0) j) = subst (λ (x : ℕ). has new j ≡ (has x j || has (getD table k 0) j)) r (o j) in
         rw (s, f) g
 
-pub passed : (table out : List ℕ) (k : ℕ) → Passing table out k 64 → Passed table k out
-passed table out k p a j h = p .done a j h h
-
 -- the paths through the numbers below k are joined in
 pub record Through (table out : List ℕ) (k : ℕ) : Type 0 where
   pub kept : (a b : ℕ) → a < 64 → b < 64 → has (getD table a 0) b ≡ true → has (getD out a 0) b ≡ true

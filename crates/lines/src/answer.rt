@@ -72,10 +72,10 @@ impl Answer {
     pub fn refused(refusal: Refusal) -> Answer
         ensures { λ r. ⌜ r ≡ Rattle.lines.specs.Answers.refused refusal ⌝ }
     {
-        let report = refusal.report();
+        let told = refusal.report();
         Answer::Refused {
-            number: report.number,
-            place: report.place,
+            number: told.number,
+            place: told.place,
         }
     }
 

@@ -29,7 +29,7 @@ pub(crate) fn byte(high: u8, low: u8) -> Option<u8>
 }
 
 // The bytes that a word is the hexadecimal digits of, where it is.
-pub fn unhex(heap: Global, word: &[u8]) -> Result<Option<Vec<u8>>, AllocError>
+pub(crate) fn unhex(heap: Global, word: &[u8]) -> Result<Option<Vec<u8>>, AllocError>
     ensures { λ r. ⌜ Unhexed (now (word .entry)) r ⌝ }
 {
     let mut out = Vec::new(heap);

@@ -10,7 +10,7 @@ fn is_digit(b: u8) -> bool
 }
 
 // The number that a word is, where it is one and at most `most`.
-pub fn number(word: &[u8], most: u32) -> Option<u32>
+pub(crate) fn number(word: &[u8], most: u32) -> Option<u32>
     ensures { λ r. ⌜ r ≡ numeral most (now (word .entry)) ⌝ }
 {
     if word.is_empty() {

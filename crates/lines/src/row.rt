@@ -25,7 +25,7 @@ fn spell(row: LiteralRow, b: u8) -> LiteralRow
 }
 
 // The row of a literal with this spelling.
-pub fn literal_row(spelling: &[u8]) -> LiteralRow
+pub(crate) fn literal_row(spelling: &[u8]) -> LiteralRow
     ensures { λ r. ⌜ r ≡ literalRow (now (spelling .entry)) ⌝ }
 {
     let mut row = LiteralRow {
@@ -90,7 +90,7 @@ fn of_symbol(relation: u8, symbol: Option<u32>) -> Option<PlaceRow>
 }
 
 // The place that a word is: a byte for the relation, or `\x` and two hexadecimal digits for it, and the symbol.
-pub fn place(word: &[u8]) -> Option<PlaceRow>
+pub(crate) fn place(word: &[u8]) -> Option<PlaceRow>
     ensures { λ r. ⌜ r ≡ placeAt (now (word .entry)) ⌝ }
 {
     if is_escaped(word) {

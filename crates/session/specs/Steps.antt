@@ -17,8 +17,7 @@ use Rattle.tokens.specs.declared.refusal.Refusal.the-variants.{NoMemory}
 use Rattle.tokens.specs.Sources.{Ending, end, fault}
 use Rattle.rows.specs.declared.row.LiteralRow.{LiteralRow}
 use Rattle.rows.specs.declared.row.RuleRow.{RuleRow}
-use Rattle.dialect.specs.Faults.{Why}
-use Rattle.dialect.specs.Loads.{Holds}
+use Rattle.dialect.specs.Loads.{Holds, Refuses}
 use Rattle.dialect.specs.Loose.{loose}
 use Rattle.dialect.specs.Views.{literals-of}
 use Rattle.script.specs.Tokens.{text-tokens, text-ending}
@@ -78,7 +77,7 @@ pub record Good-load (was now : Session) (a : Answer) : Type 0 where
 pub record Bad-load (was now : Session) (a : Answer) : Type 0 where
   pub refusal : Refusal
   pub stays : now .dialect ≡ was .dialect
-  pub why : Why (literals-in was) (rules-in was) (was .start) refusal
+  pub why : Refuses (literals-in was) (rules-in was) (was .start) refusal
   pub answer : a ≡ refused refusal
 
 pub data Load-ends (was now : Session) (a : Answer) : Type 0 where

@@ -5,7 +5,7 @@ use Rattle.closure.proofs.Ranking.{Counted, counted-more, ranks-found}
 use Rattle.closure.proofs.rank.ranks.Needs as need
 
 pub loop-a-again : need.loop-a-again
-loop-a-again c = counted-more (c .args .table .now) (c .loop-a .out) (c .loop-a .a) (c .loop-a-test .taken) (omega arith) (c .loop-a .inv)
+loop-a-again c = counted-more (c .args .table .now) (c .loop-a .out) (c .loop-a .a) (omega arith) (omega arith) (c .loop-a .inv)
 
 pub returns : need.returns
 returns c rules =

@@ -8,7 +8,7 @@ pub loop-k-holds : need.loop-k-holds
 loop-k-holds c = through-none (c .args .table .now)
 
 pub loop-k-again : need.loop-k-again
-loop-k-again c = through-more (c .args .table .now) (c .loop-k .table) (c .pass .last .table) (c .loop-k .k) (c .loop-k-test .taken) (c .loop-k .inv) (c .pass .ensures)
+loop-k-again c = through-more (c .args .table .now) (c .loop-k .table) (c .pass .last .table) (c .loop-k .k) (omega arith) (c .loop-k .inv) (c .pass .ensures)
 
 pub returns : need.returns
 returns c = let e : c .loop-k .k ≡ 64 = omega arith in through-all (c .args .table .now) (c .loop-k .table) (subst (λ (x : ℕ). Through (c .args .table .now) (c .loop-k .table) x) e (c .loop-k .inv))

@@ -1,0 +1,4 @@
+pub mod Dialects
+pub mod Case
+pub mod Table
+pub mod Claims

@@ -1,0 +1,9 @@
+pub mod Off
+pub mod Firsts
+pub mod Branching
+pub mod Writing
+pub mod Answering
+pub mod Determining
+pub mod Sorting
+pub mod Listings
+pub mod Collecting
