@@ -1,5 +1,7 @@
 // Reads commands from standard input, one to a line, and answers each on standard output. The answers of a line are
 // written out before the next line is waited for.
+#![tactic(auto)]
+
 use anyhow::anyhow;
 use lines::answer::{Answer, Reason};
 use session::{Session, respond_to};

@@ -1,5 +1,7 @@
 // The worked cases of the rules, lettered A to H, as rows of one table.
 // The crate has definitions and lemmas; its function names the theorems that hold of them.
+#![tactic(auto)]
+
 ghost use Rattle.cases.specs.Claims.{Cases, Crowded};
 
 // Each worked case has the readings, sums, items and links that the table says; and a word at column 0 under STRICT

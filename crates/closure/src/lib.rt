@@ -1,4 +1,6 @@
 // Sets of nonterminals in a machine word: the nullable ones, those that each one steps to, and those that it gets to.
+#![tactic(auto)]
+
 pub mod nullable;
 pub mod rank;
 pub mod reach;

@@ -1,4 +1,6 @@
 // A dialect: a grammar with indentation relations, loaded from rows that passed every test.
+#![tactic(auto)]
+
 mod cycle;
 pub mod dialect;
 mod examine;

@@ -1,4 +1,6 @@
 // The line format: a line read as a request, and an answer written as a line.
+#![tactic(auto)]
+
 pub mod answer;
 pub mod hex;
 pub mod number;

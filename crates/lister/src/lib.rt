@@ -1,4 +1,6 @@
 // The least reading after any list, and the list of all readings, by a cursor that walks along prefixes of readings.
+#![tactic(auto)]
+
 pub mod answer;
 mod branch;
 pub mod cursor;

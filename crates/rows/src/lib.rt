@@ -1,4 +1,6 @@
 // The rows that a dialect is loaded from, and the tests that each row must pass.
+#![tactic(auto)]
+
 pub mod literal;
 pub mod row;
 pub mod rule;

@@ -2,15 +2,15 @@
 use Rattle.std.proofs.Common.{◌≡◌, ℕ, ◌+◌, ◌-◌, ◌<◌, ◌≤◌, true, false, ◌⊎◌, List, length, get_or, take, drop, sym, refl, ap, ◌∙◌, inl, inr, arith}
 use Rattle.std.specs.List.{prefix_len}
 use Rattle.std.proofs.lemmas.List.Sums.{prefix_len-drop_yes, prefix_len-drop_no, prefix_len-drop_all}
-use Rattle.bytes.specs.declared.class.Class.TheVariants.{Blank, Line, Hash, Letter, Digit, Quote, Sign, Other}
-use Rattle.bytes.specs.declared.fault.Fault.TheVariants.{StrayByte}
-use Rattle.bytes.specs.Columns.{past, column_at}
-use Rattle.bytes.specs.Classes.{classed, divides, wordy, digital, on_line}
-use Rattle.bytes.specs.Starts.{word, number, mark, Start, token, text_of, closed, start_of}
-use Rattle.bytes.specs.Cuts.{end, fault}
-use Rattle.bytes.specs.Meaning.{Same, Last}
-use Rattle.bytes.proofs.Moves.{column_more}
-use Rattle.bytes.proofs.Steps.{here, divides_gap, same_trans, same_skip, last_end, last_stray}
+use Rattle.cutting.specs.declared.class.Class.TheVariants.{Blank, Line, Hash, Letter, Digit, Quote, Sign, Other}
+use Rattle.cutting.specs.declared.fault.Fault.TheVariants.{StrayByte}
+use Rattle.cutting.specs.Columns.{past, column_at}
+use Rattle.cutting.specs.Classes.{classed, divides, wordy, digital, on_line}
+use Rattle.cutting.specs.Starts.{word, number, mark, Start, token, text_of, closed, start_of}
+use Rattle.cutting.specs.Cuts.{end, fault}
+use Rattle.cutting.specs.Meaning.{Same, Last}
+use Rattle.cutting.proofs.Moves.{column_more}
+use Rattle.cutting.proofs.Steps.{here, divides_gap, same_trans, same_skip, last_end, last_stray}
 use Rattle.script.specs.declared.cutter.State.{State}
 use Rattle.script.specs.declared.cutter.State.TheVariants as state
 use Rattle.script.specs.declared.position.Position.{Position}

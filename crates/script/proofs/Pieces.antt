@@ -2,12 +2,12 @@
 use Rattle.std.proofs.Common.{◌≡◌, ℕ, ◌+◌, ◌-◌, ◌<◌, ◌≤◌, Bool, true, false, cond, leb, List, length, take, drop, Option, refl, ap, ◌∙◌, arith}
 use Rattle.std.proofs.lemmas.List.{length-drop, length-take-le, take_rest}
 use Rattle.std.proofs.lemmas.Bool.{leb-true, leb-false}
-use Rattle.bytes.specs.declared.fault.Fault.TheVariants.{FarColumn}
-use Rattle.bytes.specs.Columns.{column_at}
-use Rattle.bytes.specs.Starts.{token, text_of, closed, start_of}
-use Rattle.bytes.specs.Whole.{start_past}
-use Rattle.bytes.specs.Meaning.{Same}
-use Rattle.bytes.proofs.Steps.{first_cut, last_far}
+use Rattle.cutting.specs.declared.fault.Fault.TheVariants.{FarColumn}
+use Rattle.cutting.specs.Columns.{column_at}
+use Rattle.cutting.specs.Starts.{token, text_of, closed, start_of}
+use Rattle.cutting.specs.Whole.{start_past}
+use Rattle.cutting.specs.Meaning.{Same}
+use Rattle.cutting.proofs.Steps.{first_cut, last_far}
 use Rattle.script.specs.declared.position.Position.{Position}
 use Rattle.script.specs.declared.lexeme.Lexeme.{Lexeme}
 use Rattle.script.specs.declared.lexeme.Next.{Next}

@@ -3,7 +3,7 @@ use Rattle.std.specs.Prelude.{◌≡◌, ℕ, ◌+◌, ◌<◌, ◌≤◌, Bool,
 use Rattle.std.specs.Str.{bytes_eq}
 use Rattle.rows.specs.declared.row.LiteralRow.{LiteralRow}
 use Rattle.rows.specs.Rows.{no_literal}
-use Rattle.bytes.specs.Starts.{TokenClass, word, number, text, mark}
+use Rattle.cutting.specs.Starts.{TokenClass, word, number, text, mark}
 
 -- the kinds of the classes
 abbrev pub class_kind : TokenClass → ℕ

@@ -2,11 +2,11 @@
 use Rattle.std.specs.Prelude.{◌≡◌, ℕ, ◌+◌, ◌≤◌, cond, List, ◌∷◌, length, take, drop, nat_le}
 use Rattle.tokens.specs.declared.token.Token.{Token}
 use Rattle.rows.specs.declared.row.LiteralRow.{LiteralRow}
-use Rattle.bytes.specs.declared.fault.Fault.TheVariants.{FarColumn}
-use Rattle.bytes.specs.Columns.{column_at}
-use Rattle.bytes.specs.Starts.{TokenClass, word, number, text, mark}
-use Rattle.bytes.specs.Cuts.{Span, end, fault}
-use Rattle.bytes.specs.Meaning.{spans, ending_at, Last}
+use Rattle.cutting.specs.declared.fault.Fault.TheVariants.{FarColumn}
+use Rattle.cutting.specs.Columns.{column_at}
+use Rattle.cutting.specs.Starts.{TokenClass, word, number, text, mark}
+use Rattle.cutting.specs.Cuts.{Span, end, fault}
+use Rattle.cutting.specs.Meaning.{spans, ending_at, Last}
 use Rattle.script.specs.declared.position.Position.{Position}
 use Rattle.script.specs.declared.lexeme.Lexeme.{Lexeme}
 use Rattle.script.specs.declared.lexeme.Lexeme.TheVariants.{Word, Number, Text, Mark}

@@ -6,10 +6,10 @@ use Rattle.tokens.specs.declared.refusal.Refusal.TheVariants as refusal
 use Rattle.tokens.specs.Sources.{Ending}
 use Rattle.tokens.specs.Sources as sources
 use Rattle.rows.specs.declared.row.LiteralRow.{LiteralRow}
-use Rattle.bytes.specs.declared.fault.Fault.{Fault}
-use Rattle.bytes.specs.declared.fault.Fault.TheVariants.{StrayByte, UnclosedText, FarColumn, LongScript}
-use Rattle.bytes.specs.Cuts.{Span, Stop, end, fault}
-use Rattle.bytes.specs.Meaning.{spans, ending_at}
+use Rattle.cutting.specs.declared.fault.Fault.{Fault}
+use Rattle.cutting.specs.declared.fault.Fault.TheVariants.{StrayByte, UnclosedText, FarColumn, LongScript}
+use Rattle.cutting.specs.Cuts.{Span, Stop, end, fault}
+use Rattle.cutting.specs.Meaning.{spans, ending_at}
 use Rattle.script.specs.Kinds.{class_kind, kind_of}
 
 -- the bytes of a part of the script

@@ -1,12 +1,12 @@
 // The cutter: a machine over the bytes of a script.
 ghost use Rattle.std.specs.Prelude.{◌≡◌, ◌+◌, ◌-◌, ◌<◌, ◌≤◌, length, take, drop};
-ghost use Rattle.bytes.specs.Columns.{column_at};
-ghost use Rattle.bytes.specs.Starts.{start_of, text_of, closed};
+ghost use Rattle.cutting.specs.Columns.{column_at};
+ghost use Rattle.cutting.specs.Starts.{start_of, text_of, closed};
 ghost use Rattle.script.specs.Lexemes.{NextPost, pieced};
 
 use super::lexeme::{Lexeme, Next, Piece};
 use super::position::Position;
-use bytes::{Class, Fault, class_of, closing, columns};
+use cutting::{Class, Fault, class_of, closing, columns};
 
 // Where the machine stands: between tokens, or inside one, or in a comment.
 #[derive(Clone, Copy)]

@@ -4,7 +4,7 @@ ghost use Rattle.script.specs.Kinds.{class_kind};
 ghost use Rattle.script.specs.Lexemes.{class_of, held};
 
 use super::position::Position;
-use bytes::Fault;
+use cutting::Fault;
 
 // A part of the script itself, by its class.
 #[derive(Clone, Copy)]

@@ -1,4 +1,6 @@
 // The text source: a script, cut into tokens whose kinds are those of a dialect.
+#![tactic(auto)]
+
 mod cutter;
 mod lexeme;
 pub mod literals;

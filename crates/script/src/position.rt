@@ -1,8 +1,8 @@
 // An offset of a script, with its column.
 ghost use Rattle.std.specs.Prelude.{◌≡◌, ◌+◌, ◌<◌};
-ghost use Rattle.bytes.specs.Columns.{past};
+ghost use Rattle.cutting.specs.Columns.{past};
 
-use bytes::column_after;
+use cutting::column_after;
 
 // An offset of a script, and the column of the byte that stands there.
 #[derive(Clone, Copy)]

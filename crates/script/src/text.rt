@@ -1,10 +1,10 @@
 // The text source: a script and the dialect that its tokens are for.
 ghost use Rattle.std.specs.Prelude.{◌≡◌, ◌≤◌, length};
 ghost use Rattle.dialect.specs.Views.{literals_of};
-ghost use Rattle.bytes.specs.Columns.{column_at};
-ghost use Rattle.bytes.specs.Cuts.{Span};
-ghost use Rattle.bytes.specs.Meaning.{spans, ending_at};
-ghost use Rattle.bytes.specs.Laws.{Lawful};
+ghost use Rattle.cutting.specs.Columns.{column_at};
+ghost use Rattle.cutting.specs.Cuts.{Span};
+ghost use Rattle.cutting.specs.Meaning.{spans, ending_at};
+ghost use Rattle.cutting.specs.Laws.{Lawful};
 ghost use Rattle.script.specs.Kinds.{class_kind, Kinded};
 ghost use Rattle.script.specs.Tokens.{refusal_of, part_of, text_tokens, text_ending};
 
@@ -12,7 +12,7 @@ use super::cutter::next_piece;
 use super::lexeme::Next;
 use super::literals::token_of;
 use super::position::Position;
-use bytes::Fault;
+use cutting::Fault;
 use dialect::Dialect;
 use tokens::{Asked, Refusal, Source};
 

@@ -1,4 +1,6 @@
 // Kinds of value in which readings are totalled: semirings with their laws; yes-no, count, least cost and pairs.
+#![tactic(auto)]
+
 pub mod cap;
 pub mod count;
 pub mod least_cost;

@@ -1,4 +1,6 @@
 // The tables of a chart: rows of plain numbers that a caller lends, searched, filled and sorted in place.
+#![tactic(auto)]
+
 pub mod fill;
 pub mod order;
 pub mod row;

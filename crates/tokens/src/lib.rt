@@ -1,4 +1,6 @@
 // Tokens, what is refused and how it is told, and the sources that tokens come from.
+#![tactic(auto)]
+
 pub mod drain;
 pub mod list;
 pub mod refusal;

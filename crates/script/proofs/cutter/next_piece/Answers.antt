@@ -1,6 +1,6 @@
 use Rattle.std.proofs.Common.{◌≡◌, true, false, sym, refl, ◌∙◌, arith, rules}
-use Rattle.bytes.specs.Classes.{divides, wordy, digital, on_line}
-use Rattle.bytes.proofs.Moves.{column_le}
+use Rattle.cutting.specs.Classes.{divides, wordy, digital, on_line}
+use Rattle.cutting.proofs.Moves.{column_le}
 use Rattle.script.proofs.Machine.{turned, again, on_blanks, on_hash, on_letter, on_digit, on_quote, more_word, more_number, more_comment, end_comment, word_over, number_over, stray_post, mark_post, run_post, word_all, number_all, end_post}
 use Rattle.script.proofs.cutter.next_piece.Goals as goal
 use Rattle.script.proofs.cutter.next_piece.Goals.{in-Blank-Blank, in-Blank-Hash, in-Blank-Letter, in-Blank-Digit, in-Blank-Quote, in-Word-Letter, in-Number-Digit, in-Comment-Line, in-Comment-default}

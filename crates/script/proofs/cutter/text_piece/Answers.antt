@@ -1,7 +1,7 @@
 use Rattle.std.proofs.Common.{◌≡◌, ◌+◌, drop, Some, None, ◌∙◌, arith, length-drop, length-take}
-use Rattle.bytes.specs.Starts.{token, text, start_of}
-use Rattle.bytes.proofs.Moves.{column_le, columns_to}
-use Rattle.bytes.proofs.Steps.{last_open, last_open_far}
+use Rattle.cutting.specs.Starts.{token, text, start_of}
+use Rattle.cutting.proofs.Moves.{column_le, columns_to}
+use Rattle.cutting.proofs.Steps.{last_open, last_open_far}
 use Rattle.script.proofs.Pieces.{piece_post, text_open, taken_to}
 use Rattle.script.proofs.cutter.text_piece.Goals as goal
 

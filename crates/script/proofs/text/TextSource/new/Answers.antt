@@ -1,8 +1,8 @@
 use Rattle.std.proofs.Common.{refl, arith}
-use Rattle.bytes.specs.Meaning.{meant}
-use Rattle.bytes.proofs.Laying.{lays}
-use Rattle.bytes.proofs.Shaping.{sounds}
-use Rattle.bytes.proofs.Faulting.{faults}
+use Rattle.cutting.specs.Meaning.{meant}
+use Rattle.cutting.proofs.Laying.{lays}
+use Rattle.cutting.proofs.Shaping.{sounds}
+use Rattle.cutting.proofs.Faulting.{faults}
 use Rattle.script.specs.Kinds.{class_kind}
 use Rattle.script.specs.Tokens.{part_of}
 use Rattle.script.proofs.Spellings.{kinds}

@@ -1,6 +1,6 @@
 use Rattle.std.proofs.Common.{refl, ap}
 use Rattle.tokens.specs.declared.source.Asked.TheVariants.{Fault}
-use Rattle.bytes.proofs.Steps.{last_long}
+use Rattle.cutting.proofs.Steps.{last_long}
 use Rattle.script.proofs.text.TextSourceSource.ask.Goals as goal
 
 pub returns-then-self-gt-LONGEST : goal.returns-then-self-gt-LONGEST

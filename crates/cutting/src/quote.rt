@@ -1,0 +1,20 @@
+// The quote that closes a text.
+ghost use Rattle.std.specs.Prelude.{◌≡◌, ◌<◌, length, Some, None};
+ghost use Rattle.cutting.specs.Starts.{closed};
+
+// How many bytes of the part behind an opening quote stand before the closing one, if its line has one.
+pub fn closing(part: &[u8]) -> Option<usize>
+    ensures answer { result ≡ closed part.now }
+    ensures inside { elim result [ Some n ↦ n < length part.now | None ↦ Unit {0} ] }
+{
+    let mut i = 0;
+    while i < part.len() {
+        match part[i] {
+            b'"' => return Some(i),
+            b'\n' => return None,
+            _ => {}
+        }
+        i += 1;
+    }
+    None
+}
