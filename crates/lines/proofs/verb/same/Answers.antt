@@ -6,4 +6,4 @@ use Rattle.lines.proofs.verb.same.Goals as goal
 use Rattle.std.proofs.lemmas.Bool.Decides.{Decides-eqb}
 
 pub returns : goal.returns
-returns c = same_test _ _ _ (slice_eq-Decides Decides-eqb _ _ _ c.eq.ensures) ∙ ap (bytes_eq c.args.word.now) c.as-bytes.ensures.value
+returns c = same_test _ _ _ (slice_eq-Decides Decides-eqb _ _ _ c.eq.ensures) ∙ ap (bytes_eq c.args.word.now) c.as_bytes.ensures.value

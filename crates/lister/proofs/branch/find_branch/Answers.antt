@@ -5,11 +5,11 @@ use Rattle.lister.proofs.branch.find_branch.Goals as goal
 
 pub returns-then-walked-list : goal.returns-then-walked-list
 returns-then-walked-list g c = record {
-  inside = c.search-back.ensures.inside;
+  inside = c.search_back.ensures.inside;
   branches = λ t room p s h.
       let n = c.walk-walked.result in
       let w = c.walk-walked.ensures.walked t room p s h in
-      c.search-back.ensures.branches t room _ w.there (take-take (n + 1 - 1) n c.args.list.now (omega arith)) (misses_stop _ _ _ (w.stops c.if-walked-list.true));
+      c.search_back.ensures.branches t room _ w.there (take-take (n + 1 - 1) n c.args.list.now (omega arith)) (misses_stop _ _ _ (w.stops c.if-walked-list.true));
 }
 
 pub returns-in-Some : goal.returns-in-Some
@@ -22,9 +22,9 @@ returns-in-Some g c = record {
 
 pub returns : goal.returns
 returns g c = record {
-  inside = c.search-back-2.ensures.inside;
+  inside = c.search_back-2.ensures.inside;
   branches = λ t room p s h.
       let n = c.walk-walked.result in
-      let e = c.in-default.ensures t room _ (c.walk-walked.ensures.walked t room p s h).there in
-      c.search-back-2.ensures.branches t room _ e.0 (take-take (n - 1) n c.args.list.now (omega arith)) (misses_end _ _ _ c.if-walked-list.false e.1);
+      let e = c.in_default.ensures t room _ (c.walk-walked.ensures.walked t room p s h).there in
+      c.search_back-2.ensures.branches t room _ e.0 (take-take (n - 1) n c.args.list.now (omega arith)) (misses_end _ _ _ c.if-walked-list.false e.1);
 }

@@ -12,7 +12,7 @@ loop-at-preserved g c = (
       let k : 0 < c.loop-at.at = omega arith in
       let i = c.loop-at.invariant.1 t room p s e m in
       let a = subst (g.C.Cursor.stands c.back.new.self t room) i.agrees (c.back.ensures t room i.prefix i.there) in
-      let h = c.in-default.ensures t room _ a in
+      let h = c.in_default.ensures t room _ a in
       sought_less _ _ _ c.args.list.now c.loop-at.at k c.loop-at.invariant.0 i h.0 h.1,
 )
 

@@ -4,6 +4,6 @@ use Rattle.lister.proofs.listing.append.Goals as goal
 
 pub returns : goal.returns
 returns c = record {
-  lists = map_pushed vec_items _ _ _ _ c.in-ok-push.ensures.items (c.in-ok-copy.ensures.items-if-clones-equal (λ x y e. e));
-  len = c.in-ok-push.ensures.len;
+  lists = map_pushed vec_items _ _ _ _ c.in_ok-push.ensures.items (c.in_ok-copy.ensures.items-if-clones-equal (λ x y e. e));
+  len = c.in_ok-push.ensures.len;
 }

@@ -49,8 +49,8 @@ returns-then-whole g c = record {
       (((p ++ take c.loop-n.n c.loop-n.rest) ++ c.loop-n.next ∷ [], w.0), turn_whole (g.C.Cursor.readings t) p c.args.rule (g.C.Cursor.stands c.loop-n.cursor t room) c.loop-n.rest c.loop-n.n c.loop-n.next (g.C.Cursor.lawful c.args.cursor.now t room p s) k i (w.1.0 c.if-whole.true));
 }
 
-pub returns-in-default : goal.returns-in-default
-returns-in-default g c = record {
+pub returns-in_default : goal.returns-in_default
+returns-in_default g c = record {
   within = tt;
   completes = λ t room p s h y.
       let h' : length p + length c.loop-n.rest ≤ room = omega arith in
@@ -58,6 +58,6 @@ returns-in-default g c = record {
       let i = c.loop-n.invariant t room p s h' y in
       let f = c.if-not-follow.ensures t room (p ++ take c.loop-n.n c.loop-n.rest) i.there (shorter p c.loop-n.rest c.loop-n.n room k h') in
       let w = c.whole.ensures t room ((p ++ take c.loop-n.n c.loop-n.rest) ++ c.loop-n.next ∷ []) f in
-      let l = c.in-default.ensures t room ((p ++ take c.loop-n.n c.loop-n.rest) ++ c.loop-n.next ∷ []) w.0 in
+      let l = c.in_default.ensures t room ((p ++ take c.loop-n.n c.loop-n.rest) ++ c.loop-n.next ∷ []) w.0 in
       absurd (never_stuck (g.C.Cursor.readings t) ((p ++ take c.loop-n.n c.loop-n.rest) ++ c.loop-n.next ∷ []) i.toward.continues (not_from_Decides c.whole.result w.1 c.if-whole.false) l.1);
 }

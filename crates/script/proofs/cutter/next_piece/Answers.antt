@@ -20,13 +20,13 @@ returns-in-Blank-Other c = stray_post c.args.script.now c.requires.short c.args.
 
 pub returns-in-Word-default : goal.returns-in-Word-default
 returns-in-Word-default c =
-    let w : wordy c.class-of.result ≡ false = search rules in
-    rw c.piece-in-Word-default.ensures (run_post c.args.script.now c.requires.short _ _ _ _ _ (turned c.in-Word-default.is-0 c.loop-at.invariant) (word_over c.args.script.now c.requires.short c.args.from.place c.loop-at.at.place c.loop-at-test.true (rw c.class-of.ensures at w)) c.part-in-Word-default.ensures c.loop-at.invariant.column)
+    let w : wordy c.class_of.result ≡ false = search rules in
+    rw c.piece-in-Word-default.ensures (run_post c.args.script.now c.requires.short _ _ _ _ _ (turned c.in-Word-default.is-0 c.loop-at.invariant) (word_over c.args.script.now c.requires.short c.args.from.place c.loop-at.at.place c.loop-at-test.true (rw c.class_of.ensures at w)) c.part-in-Word-default.ensures c.loop-at.invariant.column)
 
 pub returns-in-Number-default : goal.returns-in-Number-default
 returns-in-Number-default c =
-    let w : digital c.class-of.result ≡ false = search rules in
-    rw c.piece-in-Number-default.ensures (run_post c.args.script.now c.requires.short _ _ _ _ _ (turned c.in-Number-default.is-0 c.loop-at.invariant) (number_over c.args.script.now c.requires.short c.args.from.place c.loop-at.at.place c.loop-at-test.true (rw c.class-of.ensures at w)) c.part-in-Number-default.ensures c.loop-at.invariant.column)
+    let w : digital c.class_of.result ≡ false = search rules in
+    rw c.piece-in-Number-default.ensures (run_post c.args.script.now c.requires.short _ _ _ _ _ (turned c.in-Number-default.is-0 c.loop-at.invariant) (number_over c.args.script.now c.requires.short c.args.from.place c.loop-at.at.place c.loop-at-test.true (rw c.class_of.ensures at w)) c.part-in-Number-default.ensures c.loop-at.invariant.column)
 
 pub loop-at-preserved : goal.loop-at-preserved
 loop-at-preserved c =
@@ -41,15 +41,15 @@ loop-at-preserved c =
     let bp = c.behind-at.ensures.place in
     let bc = c.behind-at.ensures.column in
     elim c.match-state.branch [
-      | in-Blank-Blank w ↦ again xs from at b lt t.column bp bc (w.state-is ∙ w.in-Blank-Blank.is-0) w.start-is (let k : divides c.class-of.result ≡ true = search rules in on_blanks xs short from p lt (rw c.class-of.ensures at k) (turned w.in-Blank-Blank.is-0 t))
+      | in-Blank-Blank w ↦ again xs from at b lt t.column bp bc (w.state-is ∙ w.in-Blank-Blank.is-0) w.start-is (let k : divides c.class_of.result ≡ true = search rules in on_blanks xs short from p lt (rw c.class_of.ensures at k) (turned w.in-Blank-Blank.is-0 t))
       | in-Blank-Hash w ↦ again xs from at b lt t.column bp bc w.state-is w.start-is (on_hash xs short from p lt (sym w.in-Blank-Hash.ensures) (turned w.in-Blank-Hash.is-0 t))
       | in-Blank-Letter w ↦ again xs from at b lt t.column bp bc w.state-is w.start-is (on_letter xs short from p lt (sym w.in-Blank-Letter.ensures) (turned w.in-Blank-Letter.is-0 t) at refl t.column)
       | in-Blank-Digit w ↦ again xs from at b lt t.column bp bc w.state-is w.start-is (on_digit xs short from p lt (sym w.in-Blank-Digit.ensures) (turned w.in-Blank-Digit.is-0 t) at refl t.column)
       | in-Blank-Quote w ↦ again xs from at b lt t.column bp bc w.state-is w.start-is (on_quote xs short from p lt (sym w.in-Blank-Quote.ensures) (turned w.in-Blank-Quote.is-0 t) at refl t.column)
-      | in-Word-Letter w ↦ again xs from at b lt t.column bp bc (w.state-is ∙ w.in-Word-Letter.is-0) w.start-is (let k : wordy c.class-of.result ≡ true = search rules in more_word xs short from p lt (rw c.class-of.ensures at k) _ (turned w.in-Word-Letter.is-0 t))
-      | in-Number-Digit w ↦ again xs from at b lt t.column bp bc (w.state-is ∙ w.in-Number-Digit.is-0) w.start-is (let k : digital c.class-of.result ≡ true = search rules in more_number xs short from p lt (rw c.class-of.ensures at k) _ (turned w.in-Number-Digit.is-0 t))
+      | in-Word-Letter w ↦ again xs from at b lt t.column bp bc (w.state-is ∙ w.in-Word-Letter.is-0) w.start-is (let k : wordy c.class_of.result ≡ true = search rules in more_word xs short from p lt (rw c.class_of.ensures at k) _ (turned w.in-Word-Letter.is-0 t))
+      | in-Number-Digit w ↦ again xs from at b lt t.column bp bc (w.state-is ∙ w.in-Number-Digit.is-0) w.start-is (let k : digital c.class_of.result ≡ true = search rules in more_number xs short from p lt (rw c.class_of.ensures at k) _ (turned w.in-Number-Digit.is-0 t))
       | in-Comment-Line w ↦ again xs from at b lt t.column bp bc w.state-is w.start-is (end_comment xs short from p lt (sym w.in-Comment-Line.ensures) (turned w.in-Comment-Line.is-0 t))
-      | in-Comment-default w ↦ again xs from at b lt t.column bp bc (w.state-is ∙ w.in-Comment-default.is-0) w.start-is (let k : on_line c.class-of.result ≡ true = search rules in more_comment xs short from p lt (rw c.class-of.ensures at k) (turned w.in-Comment-default.is-0 t))
+      | in-Comment-default w ↦ again xs from at b lt t.column bp bc (w.state-is ∙ w.in-Comment-default.is-0) w.start-is (let k : on_line c.class_of.result ≡ true = search rules in more_comment xs short from p lt (rw c.class_of.ensures at k) (turned w.in-Comment-default.is-0 t))
     ]
 
 pub returns-in-Blank : goal.returns-in-Blank
