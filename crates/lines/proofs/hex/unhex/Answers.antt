@@ -9,7 +9,7 @@ pub returns-in-None : goal.returns-in-None
 returns-in-None c = read_stray c.args.word.now c.loop-at.at _ (omega arith) c.in-None.ensures c.loop-at.invariant
 
 pub loop-at-preserved : goal.loop-at-preserved
-loop-at-preserved c = read_more c.args.word.now c.loop-at.at c.in-Some.b _ _ (omega arith) c.in-Some.ensures c.in_ok-push.ensures.items c.loop-at.invariant
+loop-at-preserved c = read_more c.args.word.now c.loop-at.at c.in-Some.b _ _ (omega arith) c.in-Some.ensures c.in_ok-push-in-Some.ensures.items c.loop-at.invariant
 
 pub returns-then-at-word : goal.returns-then-at-word
 returns-then-at-word c = read_odd c.args.word.now c.loop-at.at _ (omega arith) (omega arith) c.loop-at.invariant

@@ -7,9 +7,6 @@ use Rattle.lister.proofs.listing.collect.Goals as goal
 pub loop-lists-init : goal.loop-lists-init
 loop-lists-init g c = (refl, λ t room p s h. ((p, s), begun_none _ _ _ (ap (map vec_items) c.new-lists.ensures.items)))
 
-pub shape-of-buffer-in_err-found : goal.shape-of-buffer-in_err-found
-shape-of-buffer-in_err-found g c = omega arith
-
 pub returns-in_err-found : goal.returns-in_err-found
 returns-in_err-found g c = λ t room p s h.
     let i = c.loop-lists.invariant.1 t room p s h in
@@ -19,9 +16,6 @@ returns-in_err-found g c = λ t room p s h.
     let l : length c.next.new.buffer ≡ length c.args.buffer.now = omega arith in
     (a.0, a.1.blank, rw (e.1, e.2) (begun_long (g.C.Cursor.readings t) (length c.args.buffer.now) _ _ c.next.new.buffer _ l i.1 q a.1))
 
-pub shape-of-buffer-in_default : goal.shape-of-buffer-in_default
-shape-of-buffer-in_default g c = omega arith
-
 pub returns-in_default : goal.returns-in_default
 returns-in_default g c = λ t room p s h.
     let i = c.loop-lists.invariant.1 t room p s h in
@@ -29,9 +23,6 @@ returns-in_default g c = λ t room p s h.
     let a = c.in_ok-found.ensures.answered t room i.0.0 i.0.1 (omega arith) in
     let b = begun_end (g.C.Cursor.readings t) (length c.args.buffer.now) _ _ c.next.new.buffer c.in_ok-found.found (g.C.Cursor.lawful _ t room p s) i.1 q c.in_default.is a.1 in
     (a.0, b.0, b.1)
-
-pub shape-of-buffer-in_default-append : goal.shape-of-buffer-in_default-append
-shape-of-buffer-in_default-append g c = omega arith
 
 pub returns-in_default-append : goal.returns-in_default-append
 returns-in_default-append g c = λ t room p s h.
