@@ -1,9 +1,0 @@
-use Rattle.std.proofs.Common.{ap, ◌∙◌}
-use Rattle.std.specs.Str.{bytes_eq}
-use Rattle.std.proofs.lemmas.Slice.Eq.{slice_eq-Decides}
-use Rattle.lines.proofs.Comparing.{same_test}
-use Rattle.lines.proofs.verb.same.Goals as goal
-use Rattle.std.proofs.lemmas.Bool.Decides.{Decides-eqb}
-
-pub returns : goal.returns
-returns c = same_test _ _ _ (slice_eq-Decides Decides-eqb _ _ _ c.eq.ensures) ∙ ap (bytes_eq c.args.word.now) c.as_bytes.ensures.value
