@@ -3,9 +3,8 @@ use Rattle.std.proofs.Common.{◌≡◌, ℕ, suc, ◌+◌, ◌-◌, ◌<◌, �
 use mathlib.Core.List.Memᴰ
 use borrow.Rule.Slice.PartMut.{put_mid}
 use Rattle.std.specs.List.Sorted.{IsPermutation, IsSortedWithin}
-use Rattle.std.specs.Ordering.{is_lt, ordering_then, MatchOrdering, nat_cmp}
-use Rattle.std.specs.Cmp.{IsTotalOrder, nat_cmp_total}
-use Rattle.std.specs.Cmp.Derive.{on, fields, Lex}
+use Rattle.std.specs.Ordering.{is_lt, ordering_then, nat_cmp}
+use Rattle.std.specs.Cmp.{nat_cmp_is}
 use Rattle.std.specs.List.{AllByRecursion as All}
 use Rattle.std.proofs.lemmas.List.Sorted.{IsPermutation-sym, length_permutation, IsNonDecreasingBy-from_all_adjacent}
 use Rattle.std.proofs.ByRecursion.{all_shuffled}
@@ -72,27 +71,21 @@ shuffled_exactly P xs ys s e =
     }
 
 -- the order that is derived for links compares their items' rows first
-abbrev parts : LinkRow → ℕ × (ℕ × ℕ)
-parts l = (l.item, (l.earlier, l.child))
-
-abbrev Ranks : ℕ → ℕ → Ordering → Type 0
-Ranks a b r = MatchOrdering r (a < b) (a ≡ b) (b < a)
-
-abbrev pub by_parts : IsTotalOrder {K = LinkRow} (λ x y. Lex (Ranks x.item y.item) (Lex (Ranks x.earlier y.earlier) (Ranks x.child y.child)))
-by_parts = on parts (fields nat_cmp_total (fields nat_cmp_total nat_cmp_total))
+abbrev pub by_parts : LinkRow → LinkRow → Ordering
+by_parts x y = ordering_then (nat_cmp x.item y.item) (ordering_then (nat_cmp x.earlier y.earlier) (nat_cmp x.child y.child))
 
 first_not_less : (a b : Ordering) → is_lt (ordering_then a b) ≡ false → a ≡ Less → ⊥
 first_not_less Less b h e = let z : ◌≡◌ {A = ℕ} 0 1 = cc in omega arith
 first_not_less Equal b h e = let z : ◌≡◌ {A = ℕ} 0 1 = cc in omega arith
 first_not_less Greater b h e = let z : ◌≡◌ {A = ℕ} 0 1 = cc in omega arith
 
-in_order : (x y : LinkRow) → is_lt (by_parts.cmp y x) ≡ false → x.item ≤ y.item
+in_order : (x y : LinkRow) → is_lt (by_parts y x) ≡ false → x.item ≤ y.item
 in_order x y h = ⊎_elim
-    (λ l. absurd (first_not_less (nat_cmp y.item x.item) _ h (sym (nat_cmp_total.says y.item x.item Less l))))
+    (λ l. absurd (first_not_less (nat_cmp y.item x.item) _ h (sym (nat_cmp_is y.item x.item Less l))))
     (λ l. l)
     (cases_lt y.item x.item)
 
-pub ascends_rising : (xs : List LinkRow) (n : ℕ) → length xs ≡ n → IsSortedWithin (λ x y. is_lt (by_parts.cmp x y)) xs 0 n → Rising (λ l. l.item) xs
+pub ascends_rising : (xs : List LinkRow) (n : ℕ) → length xs ≡ n → IsSortedWithin (λ x y. is_lt (by_parts x y)) xs 0 n → Rising (λ l. l.item) xs
 ascends_rising xs n e a = sorted_rising (λ l. l.item) xs (IsNonDecreasingBy-from_all_adjacent (λ l. l.item) xs (λ k d h. in_order (get_or xs k d) (get_or xs (k + 1) d) (a k d (omega arith) (omega arith))))
 
 pub sorts : (xs part : List LinkRow) (n m : ℕ) → n ≤ m → m ≤ length xs → IsPermutation (take (m - n) (drop n xs)) part → Rising (λ l. l.item) part → Sorts xs (put_mid n (m - n) xs part) n m

@@ -31,7 +31,7 @@ impl Keyed for LinkRow {
 // The first of the rows from low up to high whose key is at least the one wanted, by halves.
 pub fn first_at<R: Keyed>(rows: &[R], low: usize, high: usize, wanted: usize) -> usize
     requires { (low ≤ high) × (high ≤ length rows.now) }
-    ensures { Narrowed key rows.now low high wanted result result }
+    ensures { Narrowed R.key rows.now low high wanted result result }
 {
     let mut lo = low;
     let mut hi = high;
@@ -52,5 +52,5 @@ pub fn sort_between(links: &mut [LinkRow], low: usize, high: usize)
     ensures { Sorts links.old links.new low high }
 {
     let part = &mut links[low..high];
-    part.sort();
+    part.sort_unstable();
 }
