@@ -1,5 +1,5 @@
 -- A token's column is a function of the bytes before it on its line alone.
-use Rattle.std.proofs.Common.{◌≡◌, ℕ, ◌+◌, List, [], ◌∷◌, ◌++◌, length, take, fold, sym, refl, ap, ◌∙◌, inl, inr, append_assoc}
+use Rattle.std.proofs.Common.{◌≡◌, ℕ, List, [], ◌∷◌, ◌++◌, length, take, fold, sym, refl, ap, ◌∙◌, inl, inr, append_assoc}
 use mathlib.Core.List.{Memᴰ}
 use Rattle.std.proofs.lemmas.List.{take_at}
 use Rattle.lists.specs.Members.{◌∈◌}

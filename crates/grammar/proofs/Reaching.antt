@@ -1,11 +1,11 @@
 -- The computed paths of steps are those of the definition; and where there is no cycle, each step leads to a symbol
 -- that gets to fewer.
-use Rattle.std.proofs.Common.{◌≡◌, ℕ, zero, suc, ◌<◌, ◌≤◌, Bool, true, false, ◌&&◌, ◌||◌, eqb, ◌⊎◌, List, length, Decides, refl, subst, inl, inr, arith}
+use Rattle.std.proofs.Common.{◌≡◌, ℕ, zero, suc, ◌<◌, Bool, true, false, ◌&&◌, ◌||◌, eqb, ◌⊎◌, List, length, Decides, refl, subst, inl, inr, arith}
 use native.Mathlib.Decide.{dec_lt}
 use Rattle.std.proofs.lemmas.Bool.{and_parts, or_cases, or_right}
 use Rattle.std.proofs.lemmas.Bool.Decides.{Decides-eqb}
 use Rattle.lists.specs.Members.{◌∈◌}
-use Rattle.lists.specs.Tallies.{Under, tally, any_of}
+use Rattle.lists.specs.Tallies.{Under, tally}
 use Rattle.lists.proofs.Tallies.{any_at, any_from, tally_same}
 use Rattle.grammar.specs.Grammar.{Grammar}
 use Rattle.grammar.specs.Steps.{Steps, GetsTo, one, further, Acyclic}

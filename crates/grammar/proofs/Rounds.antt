@@ -1,5 +1,5 @@
 -- Rounds that only ever add numbers of one list settle after as many rounds as the list is long.
-use Rattle.std.proofs.Common.{◌≡◌, ℕ, zero, suc, ◌<◌, ◌≤◌, Bool, true, false, ◌⊎◌, List, length, inl, inr, arith}
+use Rattle.std.proofs.Common.{◌≡◌, ℕ, zero, suc, ◌<◌, ◌≤◌, Bool, true, ◌⊎◌, List, length, inl, inr, arith}
 use native.Mathlib.Decide.{dec_lt}
 use Rattle.lists.specs.Members.{◌∈◌}
 use Rattle.lists.specs.Tallies.{Under, tally}

@@ -1,6 +1,6 @@
 -- Summaries stand for the sets of numbers that they should: `through` is a relation's preimage, `meet` the
 -- intersection, and no summary is empty.
-use Rattle.std.proofs.Common.{◌≡◌, ℕ, suc, ◌<◌, ◌≤◌, min, ◌↔◌, Some, None, Option, sym, refl, subst, arith}
+use Rattle.std.proofs.Common.{ℕ, suc, ◌↔◌, Some, None, Option, refl, subst, arith}
 use Rattle.std.proofs.lemmas.Bool.Decides.{nat_tests}
 use Rattle.indent.specs.declared.relation.Relation.{Relation}
 use Rattle.indent.specs.declared.relation.Relation.TheVariants.{Equal, Greater, AtLeast, Any}

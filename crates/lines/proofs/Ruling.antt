@@ -1,10 +1,10 @@
 -- A rule read place by place.
-use Rattle.std.proofs.Common.{◌≡◌, ℕ, List, [], ◌∷◌, Some, None, Option, sym, refl, ap, ◌∙◌}
+use Rattle.std.proofs.Common.{◌≡◌, ℕ, List, [], ◌∷◌, Some, None, Option, sym, refl}
 use Rattle.rows.specs.declared.row.PlaceRow.{PlaceRow}
 use Rattle.rows.specs.declared.row.RuleRow.{RuleRow}
 use Rattle.lines.specs.Numbers.{numeral}
 use Rattle.lines.specs.Rows.{placed, place_at}
-use Rattle.lines.specs.Requests.{further, with_places, bare_rule, rule_row}
+use Rattle.lines.specs.Requests.{further, with_places, rule_row}
 
 pub unplaced : (ws : List (List ℕ)) → with_places None ws ≡ None
 unplaced [] = refl

@@ -1,8 +1,6 @@
 -- What is written for an answer, without the line feed.
 use Rattle.std.specs.Prelude.{ℕ, List, ◌++◌, codes, decimal}
-use Rattle.tokens.specs.declared.token.Token.{Token}
 use Rattle.tokens.specs.declared.refusal.Refusal.{Refusal}
-use Rattle.tokens.specs.declared.refusal.Report.{Report}
 use Rattle.tokens.specs.Refusals.{report}
 use Rattle.lines.specs.declared.answer.Reason.{Reason}
 use Rattle.lines.specs.declared.answer.Reason.TheVariants.{NotUnderstood, NoMemory}

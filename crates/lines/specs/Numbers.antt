@@ -1,5 +1,5 @@
 -- Numbers in a line: decimal digits without a sign, of any length.
-use Rattle.std.specs.Prelude.{ℕ, ◌+◌, ◌-◌, ◌*◌, Bool, true, false, cond, ◌&&◌, List, [], ◌∷◌, length, Some, None, fold, Option, nat_le, nat_lt}
+use Rattle.std.specs.Prelude.{ℕ, ◌+◌, ◌-◌, ◌*◌, Bool, true, cond, ◌&&◌, List, [], ◌∷◌, length, Some, None, fold, Option, nat_le, nat_lt}
 
 abbrev pub digit : ℕ → Bool
 digit b = nat_le 48 b && nat_le b 57

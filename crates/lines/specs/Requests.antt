@@ -1,5 +1,5 @@
 -- What a line asks for.
-use Rattle.std.specs.Prelude.{◌≡◌, ℕ, ◌-◌, ◌≤◌, Bool, cond, List, [], ◌∷◌, length, take, Some, None, Ok, Err, vec_items, fold, Option, Result, Vec, ◌==◌, slice_index}
+use Rattle.std.specs.Prelude.{◌≡◌, ℕ, ◌-◌, cond, List, [], ◌∷◌, length, take, Some, None, Ok, Err, vec_items, Option, Result, Vec, ◌==◌, slice_index}
 use Rattle.std.specs.declared.alloc.Global.{Global}
 use Rattle.rows.specs.declared.row.LiteralRow.{LiteralRow}
 use Rattle.rows.specs.declared.row.PlaceRow.{PlaceRow}

@@ -1,5 +1,5 @@
 -- Rows in a line: a literal's spelling as its bytes, and the places of a rule.
-use Rattle.std.specs.Prelude.{ℕ, ◌+◌, ◌≤◌, min, Bool, cond, ◌&&◌, List, [], ◌∷◌, length, drop, replicate, Some, None, fold, Option, ◌==◌, nat_le, nat_lt, slice_index, slice_set}
+use Rattle.std.specs.Prelude.{ℕ, ◌+◌, ◌≤◌, min, Bool, cond, ◌&&◌, List, length, drop, replicate, Some, None, fold, Option, ◌==◌, nat_le, nat_lt, slice_index, slice_set}
 use Rattle.rows.specs.declared.row.LiteralRow.{LiteralRow}
 use Rattle.rows.specs.declared.row.PlaceRow.{PlaceRow}
 use Rattle.rows.specs.declared.row.RuleRow.{RuleRow}

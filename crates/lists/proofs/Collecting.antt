@@ -1,5 +1,5 @@
 -- A loop that collects what a function makes of each element, stated by what is left.
-use Rattle.std.proofs.Common.{◌≡◌, ℕ, ◌+◌, ◌<◌, ◌≤◌, List, [], ◌∷◌, ◌++◌, map, length, get_or, drop, sym, ap, ◌∙◌}
+use Rattle.std.proofs.Common.{◌≡◌, ℕ, ◌+◌, ◌<◌, ◌≤◌, List, [], ◌∷◌, ◌++◌, map, length, get_or, drop, sym, ◌∙◌}
 use Rattle.std.proofs.lemmas.List.{append_assoc, append-nil, drop_more, drop_all}
 
 pub collect_more : {A B : Type 0} (f : A → B) (out more all : List B) (xs : List A) (i : ℕ) (d : A) → i < length xs → out ++ map f (drop i xs) ≡ all → more ≡ out ++ f (get_or xs i d) ∷ [] → more ++ map f (drop (i + 1) xs) ≡ all

@@ -1,5 +1,5 @@
 -- The entries of a list that is mapped from another, by index.
-use Rattle.std.proofs.Common.{◌≡◌, ℕ, zero, suc, ◌<◌, List, [], ◌∷◌, map, length, get_or, take, Some, None, refl, arith}
+use Rattle.std.proofs.Common.{◌≡◌, ℕ, zero, suc, ◌<◌, List, [], ◌∷◌, map, length, get_or, take, Some, refl, arith}
 use Rattle.lists.specs.Entries.{nth}
 
 pub mapped_at : {A B : Type 0} (f : A → B) (d : A) (xs : List A) (i : ℕ) (y : B) → nth (map f xs) i ≡ Some y → (i < length xs) × (y ≡ f (get_or xs i d))

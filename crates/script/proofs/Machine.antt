@@ -2,7 +2,7 @@
 use Rattle.std.proofs.Common.{◌≡◌, ℕ, ◌+◌, ◌-◌, ◌<◌, ◌≤◌, true, false, ◌⊎◌, List, length, get_or, take, drop, sym, refl, ap, ◌∙◌, inl, inr, arith}
 use Rattle.std.specs.List.{prefix_len}
 use Rattle.std.proofs.lemmas.List.Sums.{prefix_len-drop_yes, prefix_len-drop_no, prefix_len-drop_all}
-use Rattle.cutting.specs.declared.class.Class.TheVariants.{Blank, Line, Hash, Letter, Digit, Quote, Sign, Other}
+use Rattle.cutting.specs.declared.class.Class.TheVariants.{Line, Hash, Letter, Digit, Quote, Sign, Other}
 use Rattle.cutting.specs.declared.fault.Fault.TheVariants.{StrayByte}
 use Rattle.cutting.specs.Columns.{past, column_at}
 use Rattle.cutting.specs.Classes.{classed, divides, wordy, digital, on_line}

@@ -8,16 +8,15 @@ use Rattle.lists.specs.Members.{◌∈◌, Distinct}
 use Rattle.lists.specs.Exactly.{Exactly}
 use Rattle.grammar.specs.Grammar.{Grammar}
 use Rattle.charts.specs.Chart.{Item, InChart}
-use Rattle.charts.specs.Links.{Child, leaf, sub, Link, Linked, scanned, completed, InForest}
+use Rattle.charts.specs.Links.{Child, sub, Link, Linked, scanned, completed, InForest}
 use Rattle.charts.proofs.Stable.{within, cut, uncut, link_cut, link_uncut}
 use Rattle.table.specs.declared.row.ItemRow.{ItemRow}
 use Rattle.table.specs.declared.row.LinkRow.{LinkRow}
 use Rattle.table.specs.Rows.{no_item, no_link, item_of, row_at, item_at, child_of, link_of}
 use Rattle.table.specs.Order.{Rising, Narrowed}
-use Rattle.table.specs.Growth.{since}
 use Rattle.table.specs.Standing.{ItemTable, Numbered, LinkTable}
 use Rattle.table.proofs.Rising.{member_at, get_or_member, rising_take, rising_sorted}
-use Rattle.table.proofs.Since.{since_has, since_within, index_of, item_kept}
+use Rattle.table.proofs.Since.{since_has, index_of, item_kept}
 
 abbrev end : ItemRow → ℕ
 end x = x.end

@@ -1,10 +1,9 @@
 -- Tables that grow: what a growth leaves, one row more, and one growth behind another.
 use Rattle.std.proofs.Common.{◌≡◌, ℕ, ◌+◌, ◌-◌, ◌<◌, ◌≤◌, ◌⊎◌, List, [], ◌∷◌, ◌++◌, length, get_or, take, drop, set, Some, None, Option, sym, refl, ap, ◌∙◌, subst, inl, inr, ⊎_elim, append_assoc, append-nil, arith, length-append}
 use mathlib.Core.List.Memᴰ
-use Rattle.std.proofs.lemmas.List.{length-take-le, take_more_set, take-set, take-take, take-append-le, take_at, drop_at, drop-set-lt, length-set, drop-drop, get_or-take}
+use Rattle.std.proofs.lemmas.List.{length-take-le, take_more_set, take-take, take_at, drop_at, drop-set-lt, length-set, drop-drop, get_or-take}
 use Rattle.std.proofs.lemmas.Bool.{cases_lt}
 use Rattle.lists.specs.Members.{◌∈◌, Distinct}
-use Rattle.lists.specs.Exactly.{Exactly}
 use Rattle.lists.proofs.Distinct.{distinct_append}
 use Rattle.table.specs.Growth.{Grown, Spilt, Puts, Overputs, PutsR, PutsIf, OverputsIf, PutsIfR, Range}
 

@@ -1,4 +1,4 @@
-use Rattle.std.proofs.Common.{sym, arith, rules}
+use Rattle.std.proofs.Common.{arith}
 use Rattle.lines.proofs.Hexing.{read_none, read_more, read_stray, read_odd, read_all}
 use Rattle.lines.proofs.hex.unhex.Goals as goal
 

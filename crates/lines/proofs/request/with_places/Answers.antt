@@ -1,6 +1,3 @@
-use Rattle.std.proofs.Common.{◌≡◌, drop, Some}
-use Rattle.lines.specs.Words.{words}
-use Rattle.lines.specs.Requests.{with_places}
 use Rattle.lines.proofs.Ruling.{no_place_lem, one_place}
 use Rattle.lines.proofs.request.with_places.Goals as goal
 

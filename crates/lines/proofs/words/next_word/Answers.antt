@@ -1,4 +1,4 @@
-use Rattle.std.proofs.Common.{arith, rules}
+use Rattle.std.proofs.Common.{arith}
 use Rattle.lines.proofs.Wording.{next_none, next_some}
 use Rattle.lines.proofs.words.next_word.Goals as goal
 

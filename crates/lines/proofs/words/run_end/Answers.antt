@@ -1,4 +1,4 @@
-use Rattle.std.proofs.Common.{sym, ◌∙◌, arith, rules}
+use Rattle.std.proofs.Common.{sym, ◌∙◌, arith}
 use Rattle.lines.proofs.Wording.{beq_is, beq_not, run_more, run_stops, run_all}
 use Rattle.lines.proofs.words.run_end.Goals as goal
 

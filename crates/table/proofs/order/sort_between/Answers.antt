@@ -1,4 +1,4 @@
-use Rattle.std.proofs.Common.{arith, rules, refl}
+use Rattle.std.proofs.Common.{refl}
 use Rattle.table.proofs.Sorting.{ascends_rising, sorts}
 use Rattle.table.proofs.order.sort_between.Goals as goal
 

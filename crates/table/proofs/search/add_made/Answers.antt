@@ -1,4 +1,4 @@
-use Rattle.std.proofs.Common.{arith, rules}
+use Rattle.std.proofs.Common.{arith}
 use Rattle.table.proofs.Adding.{adds_nothing, adds_there, adds_made, over_made}
 use Rattle.table.proofs.search.add_made.Goals as goal
 

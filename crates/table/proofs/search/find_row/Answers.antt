@@ -1,4 +1,4 @@
-use Rattle.std.proofs.Common.{sym, refl, arith, rules}
+use Rattle.std.proofs.Common.{sym, arith}
 use Rattle.table.specs.Rows.{item_of}
 use Rattle.table.proofs.Meaning.{item_same, not_decided}
 use Rattle.table.proofs.Since.{since_empty, since_not}
