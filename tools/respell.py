@@ -19,6 +19,21 @@ CHOSEN = {
     "grammarOf": "grammar_of_rows",
     "rule-of": "rule_of_lem",
     "getD-member": "get_or_member",
+    # Lemmas that are spelled like a step of a proof, and types with arguments.
+    "in-at": "in_at",
+    "in-bit": "in_bit",
+    "in-from": "in_from",
+    "in-none": "in_none",
+    "in-union": "in_union",
+    "Bad-load": "BadLoad",
+    "First-spelled": "FirstSpelled",
+    "Good-load": "GoodLoad",
+    "Is-mark": "IsMark",
+    "Is-number": "IsNumber",
+    "Is-text": "IsText",
+    "Is-word": "IsWord",
+    "Load-ends": "LoadEnds",
+    "Script-set": "ScriptSet",
 }
 # Names of one crate alone, where a name of another crate comes to the same.
 IN_CRATE = {"lines": {"no_place": "no_place_lem"}}

@@ -11,7 +11,7 @@ use Rattle.rows.specs.Meaning.{place_of, rule_of, grammar_of_rows}
 use Rattle.rows.specs.Rows.{no_place, no_rule}
 use Rattle.closure.specs.Sets.{in_set}
 use Rattle.closure.specs.Nulls.{Sound, Quiet, NullableSet}
-use Rattle.closure.proofs.Sets.{in-none}
+use Rattle.closure.proofs.Sets.{in_none}
 
 -- every counted place passes
 pub every_place : (f : ℕ → Bool) (r : RuleRow) → ((k : ℕ) → k < r.count → f (get_or r.places k no_place).symbol ≡ true) → every f (rule_of r).places ≡ true
@@ -26,7 +26,7 @@ some_place f r k h l n = go (every f (rule_of r).places) refl
     go false e = e
 
 pub sound_none : (rules : List RuleRow) → Sound rules 0
-sound_none rules s a e = absurd (in-none a e)
+sound_none rules s a e = absurd (in_none a e)
 
 -- one more symbol: a rule of it has symbols of the set alone
 sound_more : (rules : List RuleRow) (set out i : ℕ) → i < length rules → every (in_set set) (rule_of (get_or rules i no_rule)).places ≡ true → ((a : ℕ) → in_set out a ≡ (in_set set a || eqb (get_or rules i no_rule).left a)) → Sound rules set → Sound rules out

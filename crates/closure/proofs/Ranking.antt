@@ -19,7 +19,7 @@ use Rattle.closure.specs.Sets.{has, in_set}
 use Rattle.closure.specs.Nulls.{Formed}
 use Rattle.closure.specs.Tables.{ReachTable}
 use Rattle.closure.specs.Ranks.{reached, rank, RankTable}
-use Rattle.closure.proofs.Sets.{in-bit}
+use Rattle.closure.proofs.Sets.{in_bit}
 use Rattle.closure.proofs.Reaching.{step_first}
 
 has_half : (x k : ℕ) → has x (suc k) ≡ has (x / 2) k
@@ -70,7 +70,7 @@ ranks_found rules table ranks n t start a m =
     agree k h =
         let f : Nonterminal (256 + k) = (omega arith, omega arith) in
         let u : (256 + k) - 256 ≡ 0 + k = omega arith in
-        let w : in_set (get_or table (a - 256) 0) (256 + k) ≡ has (get_or table (a - 256) 0) (0 + k) = subst (λ (x : ℕ). in_set (get_or table (a - 256) 0) (256 + k) ≡ has (get_or table (a - 256) 0) x) u (in-bit (get_or table (a - 256) 0) (256 + k) f) in
+        let w : in_set (get_or table (a - 256) 0) (256 + k) ≡ has (get_or table (a - 256) 0) (0 + k) = subst (λ (x : ℕ). in_set (get_or table (a - 256) 0) (256 + k) ≡ has (get_or table (a - 256) 0) x) u (in_bit (get_or table (a - 256) 0) (256 + k) f) in
         let d = t start a (256 + k) m in
         sym w ∙ same_from_decides (in_set (get_or table (a - 256) 0) (256 + k)) (reaches (grammar_of_rows rules start) a (256 + k)) ((λ x. (d.0 x).1), λ g. d.1 (f, g)) (reaches_decides (grammar_of_rows rules start) a (256 + k))
 

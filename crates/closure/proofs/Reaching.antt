@@ -11,7 +11,7 @@ use Rattle.closure.specs.Sets.{has, in_set}
 use Rattle.closure.specs.Nulls.{Formed, NullableSet}
 use Rattle.closure.specs.Paths.{Path, direct, join, Closure}
 use Rattle.closure.specs.Tables.{RowSteps, StepTable, ReachTable}
-use Rattle.closure.proofs.Sets.{in-at, in-from}
+use Rattle.closure.proofs.Sets.{in_at, in_from}
 
 step_to : (rules : List RuleRow) (start nulls : ℕ) → NullableSet rules nulls → {a b : ℕ} → Steps (grammar_of_rows rules start) a b → RowSteps rules nulls (length rules) a b
 step_to rules start nulls n {a} {b} s =
@@ -72,7 +72,7 @@ module _ (rules : List RuleRow) (start nulls : ℕ) (table : List ℕ) (formed :
   step_path : {a b : ℕ} → Steps (grammar_of_rows rules start) a b → Nonterminal b → Path table (a - 256) (b - 256)
   step_path {a} {b} s m =
       let f = step_first rules start formed s in
-      direct (omega arith) (omega arith) (in-at (get_or table (a - 256) 0) b ((d a b f).1 (m, step_to rules start nulls n s))).1
+      direct (omega arith) (omega arith) (in_at (get_or table (a - 256) 0) b ((d a b f).1 (m, step_to rules start nulls n s))).1
 
   gets_path : {a b : ℕ} → GetsTo (grammar_of_rows rules start) a b → Nonterminal b → Path table (a - 256) (b - 256)
   gets_path (one s) m = step_path s m
@@ -83,7 +83,7 @@ module _ (rules : List RuleRow) (start nulls : ℕ) (table : List ℕ) (formed :
       let u : (x + 256) - 256 ≡ x = omega arith in
       let v : (y + 256) - 256 ≡ y = omega arith in
       let i : has (get_or table ((x + 256) - 256) 0) ((y + 256) - 256) ≡ true = rw (u, v) e in
-      one (step_from rules start nulls (x + 256) (y + 256) n ((d (x + 256) (y + 256) (omega arith, omega arith)).0 (in-from (get_or table ((x + 256) - 256) 0) (y + 256) (omega arith, omega arith) i)).1)
+      one (step_from rules start nulls (x + 256) (y + 256) n ((d (x + 256) (y + 256) (omega arith, omega arith)).0 (in_from (get_or table ((x + 256) - 256) 0) (y + 256) (omega arith, omega arith) i)).1)
   path_gets (join x y) = gets_append (path_gets x) (path_gets y)
 
 -- so the closed table has what each nonterminal gets to
@@ -92,11 +92,11 @@ reach_found rules nulls table closed formed n d c start a b f = (there, back)
   where
     there : in_set (get_or closed (a - 256) 0) b ≡ true → Nonterminal b × GetsTo (grammar_of_rows rules start) a b
     there e =
-        let (m, h) = in-at (get_or closed (a - 256) 0) b e in
+        let (m, h) = in_at (get_or closed (a - 256) 0) b e in
         let t = path_gets rules start nulls table formed n d ((c (a - 256) (b - 256) (omega arith) (omega arith)).0 h) in
         let u : (a - 256) + 256 ≡ a = omega arith in
         let v : (b - 256) + 256 ≡ b = omega arith in
         (m, subst (λ (x : ℕ). GetsTo (grammar_of_rows rules start) x b) u (subst (λ (y : ℕ). GetsTo (grammar_of_rows rules start) ((a - 256) + 256) y) v t))
 
     back : Nonterminal b × GetsTo (grammar_of_rows rules start) a b → in_set (get_or closed (a - 256) 0) b ≡ true
-    back (m, t) = in-from (get_or closed (a - 256) 0) b m ((c (a - 256) (b - 256) (omega arith) (omega arith)).1 (gets_path rules start nulls table formed n d t m))
+    back (m, t) = in_from (get_or closed (a - 256) 0) b m ((c (a - 256) (b - 256) (omega arith) (omega arith)).1 (gets_path rules start nulls table formed n d t m))

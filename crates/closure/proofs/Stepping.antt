@@ -6,14 +6,14 @@ use Rattle.rows.specs.declared.row.RuleRow.{RuleRow}
 use Rattle.rows.specs.Rows.{no_rule, no_place, Nonterminal}
 use Rattle.closure.specs.Sets.{in_set}
 use Rattle.closure.specs.Tables.{OthersIn, StepsBy, RowSteps, StepTable}
-use Rattle.closure.proofs.Sets.{in-none}
+use Rattle.closure.proofs.Sets.{in_none}
 
 -- the set of the steps by the first n places
 abbrev pub StepSet : ℕ → RuleRow → ℕ → ℕ → Type 0
 StepSet nulls row n out = (b : ℕ) → Decides (in_set out b) (Nonterminal b × StepsBy nulls row n b)
 
 pub steps_none : (nulls : ℕ) (row : RuleRow) → StepSet nulls row 0 0
-steps_none nulls row b = (λ e. absurd (in-none b e), λ h. absurd (omega (arith, h.1.1)))
+steps_none nulls row b = (λ e. absurd (in_none b e), λ h. absurd (omega (arith, h.1.1)))
 
 -- the place j adds no step
 pub steps_left : (nulls : ℕ) (row : RuleRow) (j out : ℕ) → StepSet nulls row j out → (Nonterminal (get_or row.places j no_place).symbol → OthersIn nulls row j → ⊥) → StepSet nulls row (j + 1) out
@@ -44,7 +44,7 @@ abbrev pub Stepping : List RuleRow → ℕ → ℕ → List ℕ → Type 0
 Stepping rules nulls n table = (length table ≡ 64) × StepTable rules nulls n table
 
 pub table_none : (rules : List RuleRow) (nulls : ℕ) → Stepping rules nulls 0 (replicate 64 0)
-table_none rules nulls = (length-replicate {A = ℕ} 64 0, λ a b n. ((λ e. absurd (in-none b (let z : get_or {A = ℕ} (replicate 64 0) (a - 256) 0 ≡ 0 = get_or-replicate {A = ℕ} 64 (a - 256) 0 0 (omega arith) in subst (λ (x : ℕ). in_set x b ≡ true) z e))), λ h. absurd (omega (arith, h.1.1))))
+table_none rules nulls = (length-replicate {A = ℕ} 64 0, λ a b n. ((λ e. absurd (in_none b (let z : get_or {A = ℕ} (replicate 64 0) (a - 256) 0 ≡ 0 = get_or-replicate {A = ℕ} 64 (a - 256) 0 0 (omega arith) in subst (λ (x : ℕ). in_set x b ≡ true) z e))), λ h. absurd (omega (arith, h.1.1))))
 
 -- the rule i adds the steps of its left symbol, and no others
 pub table_more : (rules : List RuleRow) (nulls i : ℕ) (table : List ℕ) (s new : ℕ) → Nonterminal (get_or rules i no_rule).left → Stepping rules nulls i table

@@ -10,7 +10,7 @@ use Rattle.cutting.specs.Columns.{column_at}
 use Rattle.cutting.specs.Classes.{digit, classed, wordy, digital, on_line}
 use Rattle.cutting.specs.Starts.{TokenClass, word, number, text, mark, nothing, gap, token, unclosed, stray, plain, closed, text_of, begins, start_of}
 use Rattle.cutting.specs.Cuts.{placed, step, takes, fails, Span, Stop, end, fault, Cuts, ends, breaks, skip, cut}
-use Rattle.cutting.specs.Shapes.{BlankByte, Is-word, Is-number, Is-text, Is-mark, Shaped, AllSound}
+use Rattle.cutting.specs.Shapes.{BlankByte, IsWord, IsNumber, IsText, IsMark, Shaped, AllSound}
 use Rattle.cutting.specs.Laws.{Between, none, blank, comment, Laid, Unclosed, Ended, Determined}
 use Rattle.cutting.proofs.Runs.{led, leading_exact, tail_byte, run_is}
 use Rattle.cutting.proofs.Classing.{blank_class, hash_class, feed_line, lineless, wordy_is, digital_is, letter_class, digit_class, quote_class, plain_line, plain_from, sign_class, other_class, starting, byte_starting}
@@ -20,15 +20,15 @@ module _ (xs : List ℕ) (a : ℕ) (h : a < length xs) where
   start_by : (c : Class) → classed (get_or xs a 0) ≡ c → start_of (drop a xs) ≡ begins c (drop (a + 1) xs)
   start_by c e = here xs a h ∙ ap (λ k. begins k (drop (a + 1) xs)) e
 
-  start_word : (n : ℕ) → 0 < n → a + n ≤ length xs → Is-word xs a n → start_of (drop a xs) ≡ token word n
+  start_word : (n : ℕ) → 0 < n → a + n ≤ length xs → IsWord xs a n → start_of (drop a xs) ≡ token word n
   start_word n z l w = start_by Letter (letter_class (get_or xs a 0) w.first) ∙ ap (token word) (run_is (λ b. wordy (classed b)) xs a n z l (λ k k0 kn. wordy_is (get_or xs (a + k) 0) ∙ w.all k kn) (λ q. wordy_is (get_or xs (a + n) 0) ∙ w.whole q))
 
-  start_number : (n : ℕ) → 0 < n → a + n ≤ length xs → Is-number xs a n → start_of (drop a xs) ≡ token number n
+  start_number : (n : ℕ) → 0 < n → a + n ≤ length xs → IsNumber xs a n → start_of (drop a xs) ≡ token number n
   start_number n z l w =
       let e : a + 0 ≡ a = omega arith in
       start_by Digit (digit_class (get_or xs a 0) (ap (λ k. digit (get_or xs k 0)) (sym e) ∙ w.all 0 z)) ∙ ap (token number) (run_is (λ b. digital (classed b)) xs a n z l (λ k k0 kn. digital_is (get_or xs (a + k) 0) ∙ w.all k kn) (λ q. digital_is (get_or xs (a + n) 0) ∙ w.whole q))
 
-  start_mark : (n : ℕ) → Is-mark xs a n → start_of (drop a xs) ≡ token mark n
+  start_mark : (n : ℕ) → IsMark xs a n → start_of (drop a xs) ≡ token mark n
   start_mark n w = start_by Sign (sign_class (get_or xs a 0) w.seen w.no_letter w.no_digit w.no_quote w.no_hash) ∙ ap (token mark) (sym w.one)
 
   start_comment : (n : ℕ) → a + n < length xs → get_or xs a 0 ≡ 35 → ((k : ℕ) → k < n → get_or xs (a + 1 + k) 0 ≡ 10 → ⊥) → (a + 1 + n < length xs → get_or xs (a + 1 + n) 0 ≡ 10) → start_of (drop a xs) ≡ gap (1 + n)
@@ -41,7 +41,7 @@ module _ (xs : List ℕ) (a : ℕ) (h : a < length xs) where
   start_blank : BlankByte (get_or xs a 0) → start_of (drop a xs) ≡ gap 1
   start_blank b = here xs a h ∙ divides_gap (classed (get_or xs a 0)) (drop (a + 1) xs) (blank_class (get_or xs a 0) b)
 
-  text_closed : (n : ℕ) → a + n ≤ length xs → Is-text xs a n → closed (drop (a + 1) xs) ≡ Some (n - 2)
+  text_closed : (n : ℕ) → a + n ≤ length xs → IsText xs a n → closed (drop (a + 1) xs) ≡ Some (n - 2)
   text_closed n l w =
       let d = length-drop (a + 1) xs in
       let two = w.two in
@@ -51,7 +51,7 @@ module _ (xs : List ℕ) (a : ℕ) (h : a < length xs) where
       (λ b. ap plain last) in
       rw m (rw last refl)
 
-  start_text : (n : ℕ) → a + n ≤ length xs → Is-text xs a n → start_of (drop a xs) ≡ token text n
+  start_text : (n : ℕ) → a + n ≤ length xs → IsText xs a n → start_of (drop a xs) ≡ token text n
   start_text n l w =
       let two = w.two in
       let e : n - 2 + 2 ≡ n = omega arith in

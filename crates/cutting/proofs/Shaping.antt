@@ -9,26 +9,26 @@ use Rattle.cutting.specs.Classes.{classed, wordy, digital}
 use Rattle.cutting.specs.Starts.{TokenClass, word, number, text, mark, token, plain, closed, text_of, begins}
 use Rattle.cutting.specs.Cuts.{step, takes, Span, Stop, Cuts, ends, breaks, skip, cut}
 use Rattle.cutting.specs.Whole.{some_cond, taken, takes_fit}
-use Rattle.cutting.specs.Shapes.{Is-word, Is-number, Is-text, Is-mark, Shaped, Sound, AllSound}
+use Rattle.cutting.specs.Shapes.{IsWord, IsNumber, IsText, IsMark, Shaped, Sound, AllSound}
 use Rattle.cutting.specs.Laws.{Sounds}
 use Rattle.cutting.proofs.Runs.{led, tail_byte, run_all, run_end}
 use Rattle.cutting.proofs.Classing.{wordy_is, digital_is, is_letter, is_quote, plain_quote, plain_line, sign_seen, sign_letter, sign_digit, sign_quote, sign_hash}
 use Rattle.cutting.proofs.Steps.{here}
 
-word_shape : (xs : List ℕ) (a : ℕ) → classed (get_or xs a 0) ≡ Letter → Is-word xs a (1 + prefix_len (λ b. wordy (classed b)) (drop (a + 1) xs))
+word_shape : (xs : List ℕ) (a : ℕ) → classed (get_or xs a 0) ≡ Letter → IsWord xs a (1 + prefix_len (λ b. wordy (classed b)) (drop (a + 1) xs))
 word_shape xs a c = record {
   first = is_letter (get_or xs a 0) c;
   all = λ k l. sym (wordy_is (get_or xs (a + k) 0)) ∙ run_all (λ b. wordy (classed b)) xs a (ap wordy c) k l;
   whole = λ l. sym (wordy_is (get_or xs (a + (1 + prefix_len (λ b. wordy (classed b)) (drop (a + 1) xs))) 0)) ∙ run_end (λ b. wordy (classed b)) xs a l;
 }
 
-number_shape : (xs : List ℕ) (a : ℕ) → classed (get_or xs a 0) ≡ Digit → Is-number xs a (1 + prefix_len (λ b. digital (classed b)) (drop (a + 1) xs))
+number_shape : (xs : List ℕ) (a : ℕ) → classed (get_or xs a 0) ≡ Digit → IsNumber xs a (1 + prefix_len (λ b. digital (classed b)) (drop (a + 1) xs))
 number_shape xs a c = record {
   all = λ k l. sym (digital_is (get_or xs (a + k) 0)) ∙ run_all (λ b. digital (classed b)) xs a (ap digital c) k l;
   whole = λ l. sym (digital_is (get_or xs (a + (1 + prefix_len (λ b. digital (classed b)) (drop (a + 1) xs))) 0)) ∙ run_end (λ b. digital (classed b)) xs a l;
 }
 
-text_shape : (xs : List ℕ) (a m : ℕ) → classed (get_or xs a 0) ≡ Quote → closed (drop (a + 1) xs) ≡ Some m → Is-text xs a (m + 2)
+text_shape : (xs : List ℕ) (a m : ℕ) → classed (get_or xs a 0) ≡ Quote → closed (drop (a + 1) xs) ≡ Some m → IsText xs a (m + 2)
 text_shape xs a m c e =
     let r = some_cond (eqb (get_or (drop (a + 1) xs) (prefix_len plain (drop (a + 1) xs)) 0) 34) (prefix_len plain (drop (a + 1) xs)) m e in
     let q = r.1 in
@@ -48,7 +48,7 @@ text_shape xs a m c e =
         let y = ap plain t ∙ led plain (drop (a + 1) xs) (k - 1) (omega arith) in
         (plain_quote (get_or xs (a + k) 0) y, plain_line (get_or xs (a + k) 0) y)
 
-mark_shape : (xs : List ℕ) (a : ℕ) → classed (get_or xs a 0) ≡ Sign → Is-mark xs a 1
+mark_shape : (xs : List ℕ) (a : ℕ) → classed (get_or xs a 0) ≡ Sign → IsMark xs a 1
 mark_shape xs a c = record { one = refl; seen = sign_seen (get_or xs a 0) c; no_letter = sign_letter (get_or xs a 0) c; no_digit = sign_digit (get_or xs a 0) c; no_quote = sign_quote (get_or xs a 0) c; no_hash = sign_hash (get_or xs a 0) c }
 
 shaped_at : (xs : List ℕ) (a : ℕ) {s r : TokenClass} {m n : ℕ} → s ≡ r → m ≡ n → Shaped xs s a m → Shaped xs r a n

@@ -14,25 +14,25 @@ abbrev pub TokenByte : ℕ → Type 0
 TokenByte b = (within 33 126 b ≡ true) × (b ≢ 35)
 
 -- a word of n bytes at a: a letter or _, and all letters, digits and _ that follow
-pub record Is-word (xs : List ℕ) (a n : ℕ) : Type 0 where
+pub record IsWord (xs : List ℕ) (a n : ℕ) : Type 0 where
   pub first : letter (slice_index xs a) ≡ true
   pub all : (k : ℕ) → k < n → (letter (slice_index xs (a + k)) || digit (slice_index xs (a + k))) ≡ true
   pub whole : a + n < length xs → (letter (slice_index xs (a + n)) || digit (slice_index xs (a + n))) ≡ false
 
 -- a number: a run of digits that no digit follows
-pub record Is-number (xs : List ℕ) (a n : ℕ) : Type 0 where
+pub record IsNumber (xs : List ℕ) (a n : ℕ) : Type 0 where
   pub all : (k : ℕ) → k < n → digit (slice_index xs (a + k)) ≡ true
   pub whole : a + n < length xs → digit (slice_index xs (a + n)) ≡ false
 
 -- a text: from a quote to the next one on its line, both included
-pub record Is-text (xs : List ℕ) (a n : ℕ) : Type 0 where
+pub record IsText (xs : List ℕ) (a n : ℕ) : Type 0 where
   pub two : 2 ≤ n
   pub opens : slice_index_or xs a 0 ≡ 34
   pub closes : slice_index_or xs (a + (n - 1)) 0 ≡ 34
   pub inside : (k : ℕ) → 0 < k → k < n - 1 → (slice_index xs (a + k) ≢ 34) × (slice_index xs (a + k) ≢ 10)
 
 -- a mark: one byte from 33 to 126 that starts none of these, nor a comment
-pub record Is-mark (xs : List ℕ) (a n : ℕ) : Type 0 where
+pub record IsMark (xs : List ℕ) (a n : ℕ) : Type 0 where
   pub one : n ≡ 1
   pub seen : within 33 126 (slice_index xs a) ≡ true
   pub no_letter : letter (slice_index xs a) ≡ false
@@ -41,10 +41,10 @@ pub record Is-mark (xs : List ℕ) (a n : ℕ) : Type 0 where
   pub no_hash : slice_index_or xs a 0 ≡ 35 → ⊥
 
 abbrev pub Shaped : List ℕ → TokenClass → ℕ → ℕ → Type 0
-Shaped xs word a n = Is-word xs a n
-Shaped xs number a n = Is-number xs a n
-Shaped xs text a n = Is-text xs a n
-Shaped xs mark a n = Is-mark xs a n
+Shaped xs word a n = IsWord xs a n
+Shaped xs number a n = IsNumber xs a n
+Shaped xs text a n = IsText xs a n
+Shaped xs mark a n = IsMark xs a n
 
 -- a token has the shape of its class and stands at its own column, which is at most 255, in a script of at most
 -- 65,536 bytes

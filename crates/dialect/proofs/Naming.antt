@@ -4,11 +4,11 @@ use Rattle.std.proofs.lemmas.Bool.{eq-eqb, eqb-true, or_cases, or_left, or_right
 use Rattle.rows.specs.declared.row.RuleRow.{RuleRow}
 use Rattle.rows.specs.Rows.{no_rule}
 use Rattle.closure.specs.Sets.{in_set}
-use Rattle.closure.proofs.Sets.{in-none}
+use Rattle.closure.proofs.Sets.{in_none}
 use Rattle.dialect.specs.Faults.{RuledBy}
 
 pub ruled_none : (rules : List RuleRow) (a : ℕ) → Decides (in_set 0 a) (RuledBy rules 0 a)
-ruled_none rules a = (λ e. absurd (in-none a e), λ h. absurd (omega (arith, h.1)))
+ruled_none rules a = (λ e. absurd (in_none a e), λ h. absurd (omega (arith, h.1)))
 
 pub ruled_more : (rules : List RuleRow) (set out i : ℕ) → ((a : ℕ) → Decides (in_set set a) (RuledBy rules i a)) → ((a : ℕ) → in_set out a ≡ (in_set set a || eqb (get_or rules i no_rule).left a)) → (a : ℕ) → Decides (in_set out a) (RuledBy rules (i + 1) a)
 ruled_more rules set out i d o a = ((λ e. there (or_cases (in_set set a) (eqb (get_or rules i no_rule).left a) (sym (o a) ∙ e))), λ h. o a ∙ back h (cases_lt h.0 i))

@@ -6,7 +6,7 @@ use Rattle.std.proofs.lemmas.Bool.{leb-true, le-leb, false≢true}
 use Rattle.std.proofs.lemmas.Slice.Eq.{bytes_eq-Decides}
 use Rattle.rows.specs.declared.row.LiteralRow.{LiteralRow}
 use Rattle.rows.specs.Rows.{no_literal}
-use Rattle.script.specs.Kinds.{spells, numbered, kind_of, Spelled, First-spelled, Kinds}
+use Rattle.script.specs.Kinds.{spells, numbered, kind_of, Spelled, FirstSpelled, Kinds}
 
 module _ (ls : List LiteralRow) (xs : List ℕ) (class i : ℕ) where
   pub kind_here : i < length ls → spells (get_or ls i no_literal) xs ≡ true → numbered (16 + i) (drop i ls) xs class ≡ numbered 16 ls xs class → 16 + i ≡ kind_of ls xs class
@@ -38,7 +38,7 @@ spelled_no l xs e s =
 
 abbrev FoundFrom : ℕ → List LiteralRow → List ℕ → ℕ → Type 0
 FoundFrom n ls xs class =
-    ((i : ℕ) × First-spelled ls xs i × (numbered n ls xs class ≡ n + i))
+    ((i : ℕ) × FirstSpelled ls xs i × (numbered n ls xs class ≡ n + i))
     ⊎ (((k : ℕ) → k < length ls → Spelled (get_or ls k no_literal) xs → ⊥) × (numbered n ls xs class ≡ class))
 
 below : (l : LiteralRow) (ls : List LiteralRow) (xs : List ℕ) (i : ℕ) → (Spelled l xs → ⊥) → ((k : ℕ) → k < i → Spelled (get_or ls k no_literal) xs → ⊥) → (k : ℕ) → k < suc i → Spelled (get_or (l ∷ ls) k no_literal) xs → ⊥

@@ -31,7 +31,7 @@ pub record Spelled (l : LiteralRow) (xs : List ℕ) : Type 0 where
   pub same : xs ≡ take l.length l.bytes
 
 -- row i is the first that is spelled so
-pub record First-spelled (ls : List LiteralRow) (xs : List ℕ) (i : ℕ) : Type 0 where
+pub record FirstSpelled (ls : List LiteralRow) (xs : List ℕ) (i : ℕ) : Type 0 where
   pub row : i < length ls
   pub is : Spelled (slice_index_or ls i no_literal) xs
   pub first : (k : ℕ) → k < i → Spelled (slice_index_or ls k no_literal) xs → ⊥
@@ -39,7 +39,7 @@ pub record First-spelled (ls : List LiteralRow) (xs : List ℕ) (i : ℕ) : Type
 -- the kind is 16 and the number of the first literal row that is spelled so; where there is none, that of the class
 abbrev pub Kinded : List LiteralRow → List ℕ → ℕ → Type 0
 Kinded ls xs class =
-    ((i : ℕ) × First-spelled ls xs i × (kind_of ls xs class ≡ 16 + i))
+    ((i : ℕ) × FirstSpelled ls xs i × (kind_of ls xs class ≡ 16 + i))
     ⊎ (((k : ℕ) → k < length ls → Spelled (slice_index_or ls k no_literal) xs → ⊥) × (kind_of ls xs class ≡ class))
 
 abbrev pub Kinds : Type 0

@@ -60,24 +60,24 @@ pub record Forgets (was now : Session) : Type 0 where
   pub script : now.script ≡ was.script
 
 -- a good load: the dialect holds what was collected, and the answer has the numbers of rows
-pub record Good-load (was now : Session) (a : Answer) : Type 0 where
+pub record GoodLoad (was now : Session) (a : Answer) : Type 0 where
   pub holds : Holds now.dialect (literals_in was) (rules_in was) was.start
   pub answer : a ≡ answer.Loaded (length (literals_in was)) (length (rules_in was))
 
 -- a refused one: the dialect stays, and the answer has the refusal's number and place
-pub record Bad-load (was now : Session) (a : Answer) : Type 0 where
+pub record BadLoad (was now : Session) (a : Answer) : Type 0 where
   pub refusal : Refusal
   pub stays : now.dialect ≡ was.dialect
   pub why : Refuses (literals_in was) (rules_in was) was.start refusal
   pub answer : a ≡ refused refusal
 
-pub data Load-ends (was now : Session) (a : Answer) : Type 0 where
-  good : Good-load was now a → Load-ends was now a
-  bad : Bad-load was now a → Load-ends was now a
+pub data LoadEnds (was now : Session) (a : Answer) : Type 0 where
+  good : GoodLoad was now a → LoadEnds was now a
+  bad : BadLoad was now a → LoadEnds was now a
 
 pub record Loads (was now : Session) (a : Answer) : Type 0 where
   pub forgets : Forgets was now
-  pub ends : Load-ends was now a
+  pub ends : LoadEnds was now a
 
 -- the answers of `tokens`: the tokens of the script, then the end or the fault
 abbrev pub ended : Ending → Answer
@@ -95,7 +95,7 @@ Told s (Err e) = Unit {0}
 abbrev pub with_start : Session → ℕ → Session
 with_start s n = record { dialect = s.dialect; literals = s.literals; rules = s.rules; start = n; script = s.script }
 
-pub record Script-set (was now : Session) (bytes : List ℕ) : Type 0 where
+pub record ScriptSet (was now : Session) (bytes : List ℕ) : Type 0 where
   pub dialect : now.dialect ≡ was.dialect
   pub literals : now.literals ≡ was.literals
   pub rules : now.rules ≡ was.rules
@@ -110,7 +110,7 @@ Step was now n (Some (request.literal row)) answers = Collected was now (row ∷
 Step was now n (Some (request.rule row)) answers = Collected was now [] (row ∷ []) × (answers ≡ [])
 Step was now n (Some (request.start symbol)) answers = (now ≡ with_start was symbol) × (answers ≡ [])
 Step was now n (Some request.load) answers = (a : Answer) × Loads was now a × (answers ≡ a ∷ [])
-Step was now n (Some (request.script bytes)) answers = Script-set was now bytes × (answers ≡ [])
+Step was now n (Some (request.script bytes)) answers = ScriptSet was now bytes × (answers ≡ [])
 Step was now n (Some request.tokens) answers = (now ≡ was) × (answers ≡ told was)
 
 -- the answers of a line, unless there is no memory for them
