@@ -5,8 +5,9 @@ usage: python3 tools/respell.py [--list]      at the top of a checkout, once, af
 
 A name that a file of specs/ or proofs/ declares is respelled where it begins with a small letter and has a dash or a
 capital inside (`step-first` becomes `step_first`, `costOf` becomes `cost_of`), and where it is a type of two words
-(`By-line` becomes `ByLine`). The names of goals and what the library declares keep their spelling; strings, comments'
-prose, names of modules and the code of src/ are not touched. It stops where two names would fall together.
+(`By-line` becomes `ByLine`). The names of goals and what the library declares keep their spelling; strings, comments,
+names of modules and the code of src/ are not touched. Where two names would fall together it says which, and writes
+nothing. With --list it prints what it would respell.
 """
 
 import os
@@ -39,8 +40,12 @@ CHOSEN = {
 IN_CRATE = {"lines": {"no_place": "no_place_lem"}}
 
 TOKEN = re.compile(r"[^\s(){}\[\],;.«»|\"`]+")
-DECL = re.compile(r"^(\s*)((?:abbrev |unfoldable |pub |data |record |ruleset |axiom )*)(\S+)((?: [({].*)?) :(?: (.*))?$")
-FIELD = re.compile(r"^\s+pub (\S+) : ")
+# A declaration: its words, its name, its arguments and its type.
+DECLARATION = re.compile(r"^\s*(?:(?:abbrev|unfoldable|pub|data|record|ruleset|axiom) )*(\S+)(?: [({].*)? :(?: (.*))?$")
+LIBRARY = re.compile(r"\s*(?:pub )?use (?:Rattle\.std\.|mathlib\.|Prim\.|Rattle\.\w+\.(?:proofs\.\S+\.(?:Goals|Given)|specs\.declared))\S*\{(.*)\}")
+# How the name of a goal, an invariant or a measure begins, which is made from the code.
+GOAL = re.compile(r"(loop|returns|invariant|decreases|overflow|bounds|slice_bounds|nonzero|if|then|else|in)-")
+ANSWERS = ("Answers.antt", "Invariants.antt", "Proof.antt")
 
 
 def texts(ends):
@@ -51,92 +56,87 @@ def texts(ends):
                 yield os.path.join(folder, f)
 
 
-def read(p):
-    with open(p, encoding="utf-8") as f:
+def read(path):
+    with open(path, encoding="utf-8") as f:
         return f.read()
 
 
-def snake(n):
-    n = re.sub(r"(?<=[a-z0-9])([A-Z])(?=[a-z]|$|-|_)", lambda m: "_" + m.group(1).lower(), n)
-    return n.replace("-", "_")
+def snake(name):
+    name = re.sub(r"(?<=[a-z0-9])([A-Z])(?=[a-z]|$|-|_)", lambda m: "_" + m.group(1).lower(), name)
+    return name.replace("-", "_")
 
 
-def camel(n):
-    return re.sub(r"[-_](\w)", lambda m: m.group(1).upper(), n)
-
-
-def kept(n):
-    """A goal, an invariant or a measure keeps the name that is made from the code."""
-    return re.match(r"(loop|returns|invariant|decreases|overflow|bounds|slice_bounds|nonzero|if|then|else|in)-", n) is not None
+def camel(name):
+    return re.sub(r"[-_](\w)", lambda m: m.group(1).upper(), name)
 
 
 def declared():
+    """The names that the repository declares with their types, those of goals, and those of the library."""
     found, goals, library = {}, set(), set()
-    for p in texts((".antt",)):
-        answers = os.path.basename(p) in ("Answers.antt", "Invariants.antt", "Proof.antt")
-        for line in read(p).split("\n"):
-            u = re.match(r"\s*(?:pub )?use (Rattle\.std\.|mathlib\.|Prim\.|Rattle\.\w+\.(?:proofs\.\S+\.(?:Goals|Given)|specs\.declared))\S*\{(.*)\}", line)
-            if u:
-                library |= {w.split(" as ")[0].strip() for w in u.group(2).split(",")}
-            m = DECL.match(line)
-            if not m or line.lstrip().startswith("--"):
+    for path in texts(".antt"):
+        for line in read(path).split("\n"):
+            used = LIBRARY.match(line)
+            if used:
+                library |= {word.split(" as ")[0].strip() for word in used.group(1).split(",")}
+            it = DECLARATION.match(line)
+            if not it or line.lstrip().startswith("--"):
                 continue
-            name, kind, of = m.group(3), m.group(2), m.group(5) or ""
-            if answers and ("goal." in of or kept(name)):
+            name, of = it.group(1), it.group(2) or ""
+            if os.path.basename(path) in ANSWERS and ("goal." in of or GOAL.match(name)):
                 goals.add(name)
-                continue
-            found.setdefault(name, set()).add((p, kind.strip(), of))
+            else:
+                found.setdefault(name, set()).add(of)
     return found, goals, library
+
+
+def respelled(name, types):
+    if name[0].islower() and ("-" in name or re.search(r"[a-z0-9][A-Z]", name)):
+        return snake(name)
+    is_type = any(of.rstrip().endswith("Type 0") for of in types)
+    if name[0].isupper() and is_type and re.search(r"[-_][a-z]", name):
+        return camel(name)
+    return name
 
 
 def plan():
     found, goals, library = declared()
     to = {}
-    for n, where in sorted(found.items()):
-        if n in goals or n in library or kept(n):
-            continue
-        if n[0].islower() and (("-" in n and n.strip("-") != "") or re.search(r"[a-z0-9][A-Z]", n)):
-            to[n] = snake(n)
-        elif n[0].isupper() and re.search(r"[-_][a-z]", n):
-            to[n] = n
-    for n, ways in list(to.items()):
-        if n == ways:
-            kinds = {(k, of) for _, k, of in found[n]}
-            is_type = any(of.rstrip().endswith("Type 0") for _, of in kinds)
-            to[n] = camel(n) if is_type else n
-            if to[n] == n:
-                del to[n]
-    to.update(CHOSEN)
-    taken = (set(found) - {n for crate in IN_CRATE.values() for n in crate} - set(to)) | library | goals
-    for old, new in to.items():
-        if new in taken or [o for o, w in to.items() if w == new] != [old]:
-            print(f"falls together: {old} -> {new}", file=sys.stderr)
+    for name, types in sorted(found.items()):
+        if name not in goals and name not in library and not GOAL.match(name) and respelled(name, types) != name:
+            to[name] = respelled(name, types)
+    to |= CHOSEN
+    gone = set(to).union(*IN_CRATE.values())
+    taken = (set(found) - gone) | library | goals
+    new = list(to.values())
+    met = [f"{old} -> {name}" for old, name in to.items() if name in taken or new.count(name) > 1]
+    if met:
+        sys.exit("respell: these would fall together with another name: " + ", ".join(met))
     return to
 
 
-def turn(text, to, code):
-    out = []
+def turn(text, to, mark):
+    """The text with its names respelled, outside the comments, which begin with the mark."""
+    lines = []
     for line in text.split("\n"):
-        mark = "//" if code else "--"
-        at = line.find(mark) if code else (line.find("-- ") if "-- " in line else -1)
-        head, tail = (line[:at], line[at:]) if at >= 0 else (line, "")
-        out.append(TOKEN.sub(lambda m: to.get(m.group(0), m.group(0)), head) + tail)
-    return "\n".join(out)
+        head, dash, comment = line.partition(mark)
+        lines.append(TOKEN.sub(lambda m: to.get(m.group(0), m.group(0)), head) + dash + comment)
+    return "\n".join(lines)
 
 
 def main():
     to = plan()
     if "--list" in sys.argv:
-        for k, v in sorted(to.items()):
-            print(k, v)
+        for old, new in sorted(to.items()):
+            print(old, new)
         return
     n = 0
-    for p in texts((".antt", ".rt")):
-        t = read(p)
-        new = turn(t, to | IN_CRATE.get(p.split(os.sep)[1], {}), p.endswith(".rt"))
-        if new != t:
+    for path in texts((".antt", ".rt")):
+        text = read(path)
+        of_crate = IN_CRATE.get(path.split(os.sep)[1], {})
+        new = turn(text, to | of_crate, "-- " if path.endswith(".antt") else "//")
+        if new != text:
             n += 1
-            with open(p, "w", encoding="utf-8") as f:
+            with open(path, "w", encoding="utf-8") as f:
                 f.write(new)
     print(f"respell: {len(to)} names, {n} files")
 

@@ -4,7 +4,8 @@ use mathlib.Core.List.Memᴰ
 use borrow.Rule.Slice.PartMut.{put_mid}
 use Rattle.std.specs.List.Sorted.{IsPermutation, IsSortedWithin}
 use Rattle.std.specs.Ordering.{is_lt, ordering_then, nat_cmp}
-use Rattle.std.specs.Cmp.{nat_cmp_is}
+use Rattle.std.specs.Cmp.{IsTotalOrder, nat_cmp_is}
+use Rattle.std.proofs.lemmas.Cmp.{then_total, on_total, nat_cmp_total}
 use Rattle.std.specs.List.{AllByRecursion as All}
 use Rattle.std.proofs.lemmas.List.Sorted.{IsPermutation-sym, length_permutation, IsNonDecreasingBy-from_all_adjacent}
 use Rattle.std.proofs.ByRecursion.{all_shuffled}
@@ -73,6 +74,10 @@ shuffled_exactly P xs ys s e =
 -- the order that is derived for links compares their items' rows first
 abbrev pub by_parts : LinkRow → LinkRow → Ordering
 by_parts x y = ordering_then (nat_cmp x.item y.item) (ordering_then (nat_cmp x.earlier y.earlier) (nat_cmp x.child y.child))
+
+-- that order is total
+pub by_parts_total : IsTotalOrder by_parts
+by_parts_total = then_total (on_total (λ l. l.item) nat_cmp_total) (then_total (on_total (λ l. l.earlier) nat_cmp_total) (on_total (λ l. l.child) nat_cmp_total))
 
 first_not_less : (a b : Ordering) → is_lt (ordering_then a b) ≡ false → a ≡ Less → ⊥
 first_not_less Less b h e = let z : ◌≡◌ {A = ℕ} 0 1 = cc in omega arith
