@@ -1,10 +1,13 @@
 -- The bits of a machine word, read and set as the code does it.
-use Rattle.std.proofs.Common.{◌≡◌, ℕ, zero, suc, ◌+◌, ◌-◌, ◌*◌, ◌/◌, ◌%◌, ◌^◌, ◌<◌, ◌≤◌, max, false, ◌||◌, eqb, ◌⊎◌, sym, refl, ◌∙◌, subst, inl, inr, arith, pow-add}
+use Rattle.std.proofs.Common.{◌≡◌, ℕ, zero, suc, ◌+◌, ◌-◌, ◌*◌, ◌/◌, ◌%◌, ◌^◌, ◌<◌, ◌≤◌, max, Bool, false, cond, ◌||◌, eqb, ◌⊎◌, sym, refl, ap, ◌∙◌, subst, inl, inr, zero-add, div-one, add-one, one-add, arith, pow-add, shr-shr}
 use native.Mathlib.Nat.{zero-div, div-eq_of_lt, div_self}
 use lib.Bits.{bit_or, bit_and, or_shr, or_step, or_add_and, and_le_r}
+use lib.Count.{ones, ones_step}
 use lib.Pow.{pow-lt, shl-shr}
-use Rattle.std.proofs.lemmas.Nat.{pow_pos, one_shl, and_mask}
+use Rattle.std.proofs.lemmas.Nat.{pow_pos, one_shl, and_mask, shr_below, ones-le}
 use Rattle.std.proofs.lemmas.Bool.{eq-eqb, ne_eqb, cases_order}
+use Rattle.lists.specs.Tallies.{tally, up_from}
+use Rattle.lists.proofs.Tallies.{tally_runs}
 use Rattle.closure.specs.Sets.{has}
 
 or_bit : (a b : ℕ) → bit_or a b % 2 ≡ max (a % 2) (b % 2)
@@ -63,3 +66,28 @@ has_read w k = rw (and_mask (w / 2 ^ k) 1)
 
 pub has_with : (w k : ℕ) → k < 64 → (j : ℕ) → has (bit_or w ((1 * 2 ^ k) % 18446744073709551616)) j ≡ (has w j || eqb k j)
 has_with w k h j = rw (one_shl k 64 h, has_or w (2 ^ k) j, has_one k j)
+
+has_half : (x k : ℕ) → has x (suc k) ≡ has (x / 2) k
+unfolding has
+has_half x k = let e : x / 2 / 2 ^ k ≡ x / 2 ^ (1 + k) = shr-shr x 1 k in let f : 1 + k ≡ suc k = one-add k in rw (e, f)
+
+has_low : (x : ℕ) → has x 0 ≡ eqb (x % 2) 1
+unfolding has
+has_low x = rw (div-one x)
+
+-- the ones of a word are its members
+pub ones_tally : (d x : ℕ) → x < 2 ^ d → ones x ≡ tally (has x) (up_from 0 d)
+unfolding up_from
+ones_tally zero x h = omega (arith, ones-le 0 x h)
+ones_tally (suc d) x h =
+    let a = ones_step x in
+    let b : x / 2 < 2 ^ d = shr_below x d 1 (let e : d + 1 ≡ suc d = add-one d in rw e h) in
+    let c = ones_tally d (x / 2) b in
+    let f : tally (has x) (up_from 1 d) ≡ tally (has (x / 2)) (up_from 0 d) = tally_runs (has x) (has (x / 2)) 1 0 d (λ k l. let u : 1 + k ≡ suc k = one-add k in let v : 0 + k ≡ k = zero-add k in rw (u, v) (has_half x k)) in
+    let g : tally (has x) (up_from 0 (suc d)) ≡ cond (has x 0) (suc (ones (x / 2))) (ones (x / 2)) = rw (f, sym c) in
+    sym (g ∙ ap (λ (t : Bool). cond t (suc (ones (x / 2))) (ones (x / 2))) (has_low x) ∙ low (x % 2) (ones (x / 2)) (ones x) (omega arith) (omega arith))
+  where
+    low : (b m n : ℕ) → b < 2 → n ≡ b + m → cond (eqb b 1) (suc m) m ≡ n
+    low zero m n h e = omega arith
+    low (suc zero) m n h e = omega arith
+    low (suc (suc b)) m n h e = absurd (omega arith)

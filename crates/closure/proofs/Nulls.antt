@@ -1,32 +1,27 @@
 -- The turns of the loops that find the nullable symbols.
-use Rattle.std.proofs.Common.{◌≡◌, ℕ, ◌+◌, ◌<◌, ◌≤◌, Bool, true, false, ◌||◌, eqb, ◌⊎◌, List, length, get_or, sym, refl, ◌∙◌, subst, inl, inr, arith}
+use Rattle.std.proofs.Common.{◌≡◌, ℕ, ◌+◌, ◌<◌, ◌≤◌, Bool, true, false, ◌&&◌, ◌||◌, eqb, ◌⊎◌, List, [], ◌∷◌, map, length, get_or, sym, refl, ap, ◌∙◌, subst, inl, inr, arith}
+use Rattle.std.specs.List.{list_all}
 use Rattle.std.proofs.lemmas.Bool.{eq-eqb, eqb-true, or_cases, or_right, cases_lt}
-use Rattle.lists.proofs.Mapped.{mapped_at, mapped_from, front_at, front_from}
+use Rattle.lists.proofs.Mapped.{mapped_at, mapped_from}
 use Rattle.grammar.specs.Grammar.{Rule}
 use Rattle.grammar.specs.Steps.{Nullable}
 use Rattle.grammar.specs.Nulling.{every, Settled}
-use Rattle.grammar.proofs.Nulling.{every_at, every_from, mark_sound, settled_decides}
+use Rattle.grammar.proofs.Nulling.{mark_sound, settled_decides}
+use Rattle.rows.specs.declared.row.PlaceRow.{PlaceRow}
 use Rattle.rows.specs.declared.row.RuleRow.{RuleRow}
 use Rattle.rows.specs.Meaning.{place_of, rule_of, grammar_of_rows}
-use Rattle.rows.specs.Rows.{no_place, no_rule}
+use Rattle.rows.specs.Rows.{no_rule}
 use Rattle.closure.specs.Sets.{in_set}
 use Rattle.closure.specs.Nulls.{Sound, Quiet, NullableSet}
 use Rattle.closure.proofs.Sets.{in_none}
 
--- every counted place passes
-pub every_place : (f : ℕ → Bool) (r : RuleRow) → ((k : ℕ) → k < r.count → f (get_or r.places k no_place).symbol ≡ true) → every f (rule_of r).places ≡ true
-every_place f r h = every_from f (rule_of r).places (λ j q e. let (a, b, _) = front_at place_of no_place r.count r.places j q e in let t = h j a in cc)
+-- the symbol of every place passes, said of the rows of the places
+pub every_all : (f : ℕ → Bool) (ps : List PlaceRow) → list_all (λ p. f p.symbol) ps ≡ every f (map place_of ps)
+every_all f [] = refl
+every_all f (p ∷ ps) = ap (λ b. f p.symbol && b) (every_all f ps)
 
--- or one does not
-pub some_place : (f : ℕ → Bool) (r : RuleRow) (k : ℕ) → k < r.count → k < length r.places → f (get_or r.places k no_place).symbol ≡ false → every f (rule_of r).places ≡ false
-some_place f r k h l n = go (every f (rule_of r).places) refl
-  where
-    go : (b : Bool) → every f (rule_of r).places ≡ b → every f (rule_of r).places ≡ false
-    go true e = let t = every_at f (rule_of r).places e k (place_of (get_or r.places k no_place)) (front_from place_of no_place r.count r.places k h l) in let z : ◌≡◌ {A = ℕ} 0 1 = cc in absurd (omega arith)
-    go false e = e
-
-pub sound_none : (rules : List RuleRow) → Sound rules 0
-sound_none rules s a e = absurd (in_none a e)
+pub sound_none : (rules : List RuleRow) (set : ℕ) → set ≡ 0 → Sound rules set
+sound_none rules set z = rw z (λ s a e. absurd (in_none a e))
 
 -- one more symbol: a rule of it has symbols of the set alone
 sound_more : (rules : List RuleRow) (set out i : ℕ) → i < length rules → every (in_set set) (rule_of (get_or rules i no_rule)).places ≡ true → ((a : ℕ) → in_set out a ≡ (in_set set a || eqb (get_or rules i no_rule).left a)) → Sound rules set → Sound rules out

@@ -1,6 +1,5 @@
 -- Warshall's rounds find the paths through a table.
-use Rattle.std.proofs.Common.{◌≡◌, ℕ, ◌+◌, ◌<◌, ◌≤◌, Bool, true, false, ◌&&◌, ◌||◌, ◌⊎◌, List, length, get_or, set, sym, refl, ap, ◌∙◌, subst, inl, inr, arith}
-use Rattle.std.proofs.lemmas.List.{get_or-set_same, get_or-set_other, length-set}
+use Rattle.std.proofs.Common.{◌≡◌, ℕ, ◌+◌, ◌<◌, ◌≤◌, true, ◌&&◌, ◌||◌, ◌⊎◌, List, length, get_or, sym, ◌∙◌, subst, inl, inr, arith}
 use Rattle.std.proofs.lemmas.Bool.{and_parts, and_from, or_cases, or_left, or_right, cases_lt}
 use Rattle.closure.specs.Sets.{has}
 use Rattle.closure.specs.Paths.{Path, direct, join, Closure, Passed}
@@ -10,39 +9,6 @@ pub record Passing (table out : List ℕ) (k i : ℕ) : Type 0 where
   pub size : length out ≡ 64
   pub done : (a j : ℕ) → a < i → a < 64 → has (get_or out a 0) j ≡ (has (get_or table a 0) j || (has (get_or table a 0) k && has (get_or table k 0) j))
   pub rest : (a : ℕ) → i ≤ a → get_or out a 0 ≡ get_or table a 0
-
-pub passing_none : (table : List ℕ) (k : ℕ) → length table ≡ 64 → Passing table table k 0
-passing_none table k l = record { size = l; done = λ a j h _. absurd (omega arith); rest = λ a h. refl }
-
--- row i is left as it is
-pub passing_left : (table out : List ℕ) (k i : ℕ) → Passing table out k i → has (get_or out i 0) k ≡ false → Passing table out k (i + 1)
-passing_left table out k i p n = record { size = p.size; done = λ a j h b. go a j b (cases_lt a i) h; rest = λ a h. p.rest a (omega arith) }
-  where
-    go : (a j : ℕ) → a < 64 → (a < i) ⊎ (i ≤ a) → a < i + 1 → has (get_or out a 0) j ≡ (has (get_or table a 0) j || (has (get_or table a 0) k && has (get_or table k 0) j))
-    go a j b (inl l) h = p.done a j l b
-    go a j b (inr l) h =
-        let e : a ≡ i = omega arith in
-        let s : get_or out a 0 ≡ get_or table a 0 = p.rest a l in
-        let f : has (get_or table a 0) k ≡ false = subst (λ (x : ℕ). has x k ≡ false) s (subst (λ (x : ℕ). has (get_or out x 0) k ≡ false) (sym e) n) in
-        rw (s, f) (or_none (has (get_or table a 0) j))
-      where
-        or_none : (b : Bool) → b ≡ (b || false)
-        or_none true = refl
-        or_none false = refl
-
--- row i is joined with row k
-pub passing_more : (table out : List ℕ) (k i new : ℕ) → i < 64 → Passing table out k i → has (get_or out i 0) k ≡ true → ((j : ℕ) → has new j ≡ (has (get_or out i 0) j || has (get_or table k 0) j)) → Passing table (set out i new) k (i + 1)
-passing_more table out k i new b p t o = record { size = simp length-set p.size; done = λ a j h c. go a j c (cases_lt a i) h; rest = λ a h. get_or-set_other out i a new 0 (λ e. omega arith) ∙ p.rest a (omega arith) }
-  where
-    go : (a j : ℕ) → a < 64 → (a < i) ⊎ (i ≤ a) → a < i + 1 → has (get_or (set out i new) a 0) j ≡ (has (get_or table a 0) j || (has (get_or table a 0) k && has (get_or table k 0) j))
-    go a j c (inl l) h = let s : get_or (set out i new) a 0 ≡ get_or out a 0 = get_or-set_other out i a new 0 (λ e. omega arith) in rw s (p.done a j l c)
-    go a j c (inr l) h =
-        let e : i ≡ a = omega arith in
-        let s : get_or (set out i new) a 0 ≡ new = subst (λ (x : ℕ). get_or (set out i new) x 0 ≡ new) e (get_or-set_same out i new 0 (omega (arith, p.size))) in
-        let r : get_or out i 0 ≡ get_or table a 0 = p.rest i (omega arith) ∙ ap (λ x. get_or table x 0) e in
-        let f : has (get_or table a 0) k ≡ true = subst (λ (x : ℕ). has x k ≡ true) r t in
-        let g : has new j ≡ (has (get_or table a 0) j || has (get_or table k 0) j) = subst (λ (x : ℕ). has new j ≡ (has x j || has (get_or table k 0) j)) r (o j) in
-        rw (s, f) g
 
 -- the paths through the numbers below k are joined in
 pub record Through (table out : List ℕ) (k : ℕ) : Type 0 where

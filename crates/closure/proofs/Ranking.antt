@@ -1,8 +1,5 @@
 -- The sizes of the sets in a table of what each nonterminal gets to are the ranks, and fall along every step.
-use Rattle.std.proofs.Common.{◌≡◌, ℕ, zero, suc, ◌+◌, ◌-◌, ◌/◌, ◌%◌, ◌^◌, ◌<◌, ◌≤◌, Bool, cond, eqb, ◌⊎◌, List, length, get_or, set, sym, ap, ◌∙◌, subst, inl, inr, zero-add, div-one, add-one, one-add, arith, shr-shr}
-use lib.Count.{ones, ones_step}
-use Rattle.std.proofs.lemmas.Nat.{shr_below, ones-le}
-use Rattle.std.proofs.lemmas.List.{get_or-set_same, get_or-set_other, length-set}
+use Rattle.std.proofs.Common.{◌≡◌, ℕ, suc, ◌+◌, ◌-◌, ◌<◌, ◌≤◌, ◌⊎◌, List, get_or, sym, ◌∙◌, subst, inl, inr, arith}
 use Rattle.std.proofs.lemmas.Bool.{cases_lt, le-leb, lt-leb}
 use Rattle.std.proofs.lemmas.Bool.Decides.{same_from_decides}
 use Rattle.lists.specs.Members.{◌∈◌}
@@ -22,49 +19,14 @@ use Rattle.closure.specs.Ranks.{reached, rank, RankTable}
 use Rattle.closure.proofs.Sets.{in_bit}
 use Rattle.closure.proofs.Reaching.{step_first}
 
-has_half : (x k : ℕ) → has x (suc k) ≡ has (x / 2) k
-unfolding has
-has_half x k = let e : x / 2 / 2 ^ k ≡ x / 2 ^ (1 + k) = shr-shr x 1 k in let f : 1 + k ≡ suc k = one-add k in rw (e, f)
+-- sets that are counted one by one
+abbrev pub Counted : List ℕ → List ℕ → Type 0
+Counted table ranks = (k : ℕ) → k < 64 → get_or ranks k 0 ≡ tally (has (get_or table k 0)) (up_from 0 64)
 
-has_low : (x : ℕ) → has x 0 ≡ eqb (x % 2) 1
-unfolding has
-has_low x = rw (div-one x)
-
--- the ones of a word are its members
-ones_tally : (d x : ℕ) → x < 2 ^ d → ones x ≡ tally (has x) (up_from 0 d)
-unfolding up_from
-ones_tally zero x h = omega (arith, ones-le 0 x h)
-ones_tally (suc d) x h =
-    let a = ones_step x in
-    let b : x / 2 < 2 ^ d = shr_below x d 1 (let e : d + 1 ≡ suc d = add-one d in rw e h) in
-    let c = ones_tally d (x / 2) b in
-    let f : tally (has x) (up_from 1 d) ≡ tally (has (x / 2)) (up_from 0 d) = tally_runs (has x) (has (x / 2)) 1 0 d (λ k l. let u : 1 + k ≡ suc k = one-add k in let v : 0 + k ≡ k = zero-add k in rw (u, v) (has_half x k)) in
-    let g : tally (has x) (up_from 0 (suc d)) ≡ cond (has x 0) (suc (ones (x / 2))) (ones (x / 2)) = rw (f, sym c) in
-    sym (g ∙ ap (λ (t : Bool). cond t (suc (ones (x / 2))) (ones (x / 2))) (has_low x) ∙ low (x % 2) (ones (x / 2)) (ones x) (omega arith) (omega arith))
-  where
-    low : (b m n : ℕ) → b < 2 → n ≡ b + m → cond (eqb b 1) (suc m) m ≡ n
-    low zero m n h e = omega arith
-    low (suc zero) m n h e = omega arith
-    low (suc (suc b)) m n h e = absurd (omega arith)
-
--- the first n counts are those of the table's sets
-abbrev pub Counted : List ℕ → List ℕ → ℕ → Type 0
-Counted table ranks n = (k : ℕ) → k < n → (get_or ranks k 0 ≡ ones (get_or table k 0)) × (get_or table k 0 < 2 ^ 64)
-
-pub counted_more : (table ranks : List ℕ) (a : ℕ) → a < 64 → get_or table a 0 < 2 ^ 64 → (length ranks ≡ 64) × Counted table ranks a → (length (set ranks a (ones (get_or table a 0))) ≡ 64) × Counted table (set ranks a (ones (get_or table a 0))) (a + 1)
-counted_more table ranks a h l (e, r) = (simp length-set e, λ k m. go k m (cases_lt k a))
-  where
-    go : (k : ℕ) → k < a + 1 → (k < a) ⊎ (a ≤ k) → (get_or (set ranks a (ones (get_or table a 0))) k 0 ≡ ones (get_or table k 0)) × (get_or table k 0 < 2 ^ 64)
-    go k m (inl u) = (get_or-set_other ranks a k (ones (get_or table a 0)) 0 (λ f. omega arith) ∙ (r k u).0, (r k u).1)
-    go k m (inr u) =
-        let w : a ≡ k = omega arith in
-        subst (λ (x : ℕ). (get_or (set ranks a (ones (get_or table a 0))) x 0 ≡ ones (get_or table x 0)) × (get_or table x 0 < 2 ^ 64)) w (get_or-set_same ranks a (ones (get_or table a 0)) 0 (omega arith), l)
-
-pub ranks_found : (rules : List RuleRow) (table ranks : List ℕ) → Counted table ranks 64 → ReachTable rules table → RankTable rules ranks
+pub ranks_found : (rules : List RuleRow) (table ranks : List ℕ) → Counted table ranks → ReachTable rules table → RankTable rules ranks
 unfolding reached
 ranks_found rules table ranks n t start a m =
-    let (e, l) = n (a - 256) (omega arith) in
-    e ∙ ones_tally 64 (get_or table (a - 256) 0) l ∙ tally_runs (has (get_or table (a - 256) 0)) (reaches (grammar_of_rows rules start) a) 0 256 64 agree
+    n (a - 256) (omega arith) ∙ tally_runs (has (get_or table (a - 256) 0)) (reaches (grammar_of_rows rules start) a) 0 256 64 agree
   where
     agree : (k : ℕ) → k < 64 → has (get_or table (a - 256) 0) (0 + k) ≡ reaches (grammar_of_rows rules start) a (256 + k)
     agree k h =

@@ -4,10 +4,10 @@
 pub mod nullable;
 pub mod rank;
 pub mod reach;
+pub mod rules;
 pub mod set;
 pub mod step;
 
-pub use nullable::nullables;
 pub use rank::ranks;
-pub use reach::reach_table;
-pub use set::{contains, insert};
+pub use rules::Rules;
+pub use set::SymbolSet;

@@ -3,51 +3,46 @@ ghost use Rattle.std.specs.Prelude.{◌≡◌, ◌≤◌, length};
 ghost use Rattle.grammar.specs.Nulling.{every};
 ghost use Rattle.rows.specs.Meaning.{rule_of};
 ghost use Rattle.closure.specs.Sets.{in_set};
-ghost use Rattle.closure.specs.Nulls.{Formed, Sound, Quiet, NullableSet};
+ghost use Rattle.closure.specs.Nulls.{Sound, Quiet, NullableSet};
 
-use crate::set::{contains, insert};
+use crate::rules::Rules;
+use crate::set::SymbolSet;
 use rows::RuleRow;
 
 // Whether the set has the symbol of every place of the rule.
-fn all_in(row: &RuleRow, set: u64) -> bool
-    requires { row.now.count ≤ 6 }
+fn all_in(row: &RuleRow, set: SymbolSet) -> bool
     ensures { result ≡ every (in_set set) (rule_of row.now).places }
 {
-    for k in 0..row.count as usize {
-        if !contains(set, row.places[k].symbol) {
-            return false;
-        }
-    }
-    true
+    row.counted().iter().all(|place| set.contains(place.symbol))
 }
 
-// The set with the left symbols of the rules whose places are all in it.
-fn round(rules: &[RuleRow], set: u64) -> u64
-    requires { Formed rules.now }
-    ensures grown { set ≤ result }
-    ensures sound { Sound rules.now set → Sound rules.now result }
-    ensures quiet { result ≡ set → Quiet rules.now set (length rules.now) }
-{
-    let mut out = set;
-    for i in 0..rules.len() {
-        if all_in(&rules[i], out) {
-            out = insert(out, rules[i].left);
+impl Rules<'_> {
+    // The set of the nullable nonterminals.
+    pub fn nullables(&self) -> SymbolSet
+        ensures { NullableSet self.now.rows.now result }
+    {
+        let mut set = SymbolSet::new();
+        loop {
+            let next = self.round(set);
+            if next == set {
+                return set;
+            }
+            set = next;
         }
     }
-    out
-}
 
-// The set of the nullable nonterminals.
-pub fn nullables(rules: &[RuleRow]) -> u64
-    requires { Formed rules.now }
-    ensures { NullableSet rules.now result }
-{
-    let mut set = 0;
-    loop {
-        let next = round(rules, set);
-        if next == set {
-            return set;
+    // The set with the left symbols of the rules whose places are all in it.
+    fn round(&self, set: SymbolSet) -> SymbolSet
+        ensures grown { set ≤ result }
+        ensures sound { Sound self.now.rows.now set → Sound self.now.rows.now result }
+        ensures quiet { result ≡ set → Quiet self.now.rows.now set (length self.now.rows.now) }
+    {
+        let mut out = set;
+        for row in self.rows {
+            if all_in(row, out) {
+                out = out.with(row.left);
+            }
         }
-        set = next;
+        out
     }
 }

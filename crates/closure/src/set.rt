@@ -1,37 +1,75 @@
-// A set of nonterminals in a machine word: bit k stands for the nonterminal 256 + k.
+// Sets of nonterminals, each in a machine word: bit k stands for the nonterminal 256 + k.
 ghost use Rattle.std.specs.Prelude.{◌≡◌, ℕ, ◌<◌, ◌≤◌, ◌||◌, ◌==◌};
+ghost use Rattle.lists.specs.Tallies.{tally, up_from};
 ghost use Rattle.rows.specs.Rows.{Nonterminal};
 ghost use Rattle.closure.specs.Sets.{has, in_set};
 
 use rows::nonterminal;
+use std::marker::Model;
 
-pub(crate) fn has_bit(set: u64, k: u16) -> bool
-    requires { k < 64 }
-    ensures { result ≡ has set k }
-{
-    (set >> k) & 1 == 1
+// A set of nonterminals; contracts see it as the number that its bits are.
+#[derive(Clone, Copy, Debug, PartialEq, Eq)]
+pub struct SymbolSet {
+    bits: u64,
 }
 
-// What is in one set or the other.
-pub(crate) fn union(a: u64, b: u64) -> u64
-    ensures bits { (j : ℕ) → has result j ≡ (has a j || has b j) }
-    ensures symbols { (s : ℕ) → in_set result s ≡ (in_set a s || in_set b s) }
-{
-    a | b
+impl Model for SymbolSet {
+    ghost Value = { ℕ };
+
+    ghost view = { λ s. s.bits };
+
+    ghost inverse = { λ n. record { bits = n } };
 }
 
-// Whether the symbol is a nonterminal of the set.
-pub fn contains(set: u64, symbol: u16) -> bool
-    ensures { result ≡ in_set set symbol }
-{
-    nonterminal(symbol) && has_bit(set, symbol - 256)
-}
+impl SymbolSet {
+    // The set without a member.
+    pub fn new() -> SymbolSet
+        ensures { result ≡ 0 }
+    {
+        SymbolSet { bits: 0 }
+    }
 
-// The set with one nonterminal more.
-pub fn insert(set: u64, symbol: u16) -> u64
-    requires { Nonterminal symbol }
-    ensures symbols { (s : ℕ) → in_set result s ≡ (in_set set s || symbol == s) }
-    ensures grown { set ≤ result }
-{
-    set | (1 << (symbol - 256))
+    // Whether the symbol is a nonterminal of the set.
+    pub fn contains(self, symbol: u16) -> bool
+        ensures { result ≡ in_set self symbol }
+    {
+        nonterminal(symbol) && self.has(symbol - 256)
+    }
+
+    // The set with one nonterminal more.
+    pub fn with(self, symbol: u16) -> SymbolSet
+        requires { Nonterminal symbol }
+        ensures symbols { (s : ℕ) → in_set result s ≡ (in_set self s || symbol == s) }
+        ensures grown { self ≤ result }
+    {
+        SymbolSet {
+            bits: self.bits | (1 << (symbol - 256)),
+        }
+    }
+
+    // Whether the nonterminal 256 + k is in the set.
+    pub(crate) fn has(self, k: u16) -> bool
+        requires { k < 64 }
+        ensures { result ≡ has self k }
+    {
+        (self.bits >> k) & 1 == 1
+    }
+
+    // What is in one set or the other.
+    pub(crate) fn union(self, other: SymbolSet) -> SymbolSet
+        ensures bits { (j : ℕ) → has result j ≡ (has self j || has other j) }
+        ensures symbols { (s : ℕ) → in_set result s ≡ (in_set self s || in_set other s) }
+    {
+        SymbolSet {
+            bits: self.bits | other.bits,
+        }
+    }
+
+    // How many nonterminals are in the set.
+    pub(crate) fn len(self) -> u32
+        ensures members { result ≡ tally (has self) (up_from 0 64) }
+        ensures few { result ≤ 64 }
+    {
+        self.bits.count_ones()
+    }
 }

@@ -7,6 +7,7 @@ ghost use Rattle.closure.specs.Ranks.{RankTable};
 ghost use Rattle.dialect.specs.Faults.{Few, NamesOk};
 ghost use Rattle.dialect.specs.Invariants.{Faultless, Nulls};
 
+use closure::SymbolSet;
 use rows::{LiteralRow, RuleRow};
 
 mod first;
@@ -19,7 +20,7 @@ pub struct Dialect {
     literals: Vec<LiteralRow>,
     rules: Vec<RuleRow>,
     start: u16,
-    nullable: u64,
+    nullable: SymbolSet,
     ranks: [u8; 64],
     ghost few: { Few literals.items rules.items },
     ghost spelled: { Faultless (LiteralOk literals.items) (length literals.items) },

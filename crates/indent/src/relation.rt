@@ -1,9 +1,8 @@
 // The four relations between the number of a child and that of its parent.
-ghost use Rattle.std.specs.Prelude.{◌≡◌};
-ghost use Rattle.indent.specs.Relations.{relation_at};
+ghost use Rattle.indent.specs.Relations.{Reads};
 
 // What a place of a rule asks of the child's number: equal to the parent's, greater, at least as great, or any.
-#[derive(Clone, Copy)]
+#[derive(Clone, Copy, Debug, PartialEq, Eq)]
 pub enum Relation {
     Equal,
     Greater,
@@ -11,17 +10,23 @@ pub enum Relation {
     Any,
 }
 
-impl Relation {
+// A byte that is the character of no relation.
+#[derive(Clone, Copy, Debug, PartialEq, Eq)]
+pub struct UnknownRelation(pub u8);
+
+impl TryFrom<u8> for Relation {
+    type Error = UnknownRelation;
+
+    ghost try_from_gives = { Reads };
+
     // The relation that a byte of a rule row is the character of.
-    pub fn from_byte(byte: u8) -> Option<Relation>
-        ensures { result ≡ relation_at byte }
-    {
+    fn try_from(byte: u8) -> Result<Relation, UnknownRelation> {
         match byte as char {
-            '=' => Some(Relation::Equal),
-            '>' => Some(Relation::Greater),
-            '~' => Some(Relation::AtLeast),
-            '*' => Some(Relation::Any),
-            _ => None,
+            '=' => Ok(Relation::Equal),
+            '>' => Ok(Relation::Greater),
+            '~' => Ok(Relation::AtLeast),
+            '*' => Ok(Relation::Any),
+            _ => Err(UnknownRelation(byte)),
         }
     }
 }

@@ -1,14 +1,14 @@
 // Summaries: the sets of numbers that the root of a subtree may carry.
 ghost use Rattle.std.specs.Prelude.{◌≡◌};
 ghost use Rattle.indent.specs.Summaries.{through, meet, passed, Allowed, Both, Passes, Inhabited};
-ghost use Rattle.indent.specs.Codes.{encode, decode};
+ghost use Rattle.indent.specs.Codes.{encode, decode, Encodes, Decodes};
 ghost use Rattle.indent.specs.declared.relation.Relation.{Relation};
 ghost use Rattle.indent.specs.declared.summary.Summary.{Summary};
 
 use super::relation::Relation;
 
 // The numbers that the root of a subtree may carry: every whole number, those up to one, or one alone.
-#[derive(Clone, Copy)]
+#[derive(Clone, Copy, Debug, PartialEq, Eq)]
 pub enum Summary {
     Free,
     AtMost(u16),
@@ -18,11 +18,7 @@ pub enum Summary {
 fn below(m: u16) -> Option<Summary>
     ensures { result ≡ Rattle.indent.specs.Summaries.below m }
 {
-    if m == 0 {
-        None
-    } else {
-        Some(Summary::AtMost(m - 1))
-    }
+    m.checked_sub(1).map(Summary::AtMost)
 }
 
 impl Summary {
@@ -30,19 +26,11 @@ impl Summary {
     pub fn through(self, relation: Relation) -> Option<Summary>
         ensures { result ≡ through relation self }
     {
-        match relation {
-            Relation::Equal => Some(self),
-            Relation::Greater => match self {
-                Summary::Free => Some(Summary::Free),
-                Summary::AtMost(m) => below(m),
-                Summary::Exact(c) => below(c),
-            },
-            Relation::AtLeast => match self {
-                Summary::Free => Some(Summary::Free),
-                Summary::AtMost(m) => Some(Summary::AtMost(m)),
-                Summary::Exact(c) => Some(Summary::AtMost(c)),
-            },
-            Relation::Any => Some(Summary::Free),
+        match (relation, self) {
+            (Relation::Equal, _) => Some(self),
+            (Relation::Any, _) | (_, Summary::Free) => Some(Summary::Free),
+            (Relation::Greater, Summary::AtMost(m) | Summary::Exact(m)) => below(m),
+            (Relation::AtLeast, Summary::AtMost(m) | Summary::Exact(m)) => Some(Summary::AtMost(m)),
         }
     }
 
@@ -50,18 +38,13 @@ impl Summary {
     pub fn meet(self, other: Summary) -> Option<Summary>
         ensures { result ≡ meet self other }
     {
-        match self {
-            Summary::Free => Some(other),
-            Summary::AtMost(m) => match other {
-                Summary::Free => Some(self),
-                Summary::AtMost(n) => Some(Summary::AtMost(m.min(n))),
-                Summary::Exact(c) => { if c <= m { Some(other) } else { None } }
-            },
-            Summary::Exact(c) => match other {
-                Summary::Free => Some(self),
-                Summary::AtMost(m) => { if c <= m { Some(self) } else { None } }
-                Summary::Exact(d) => { if c == d { Some(self) } else { None } }
-            },
+        match (self, other) {
+            (Summary::Free, _) => Some(other),
+            (_, Summary::Free) => Some(self),
+            (Summary::AtMost(m), Summary::AtMost(n)) => Some(Summary::AtMost(m.min(n))),
+            (Summary::AtMost(m), Summary::Exact(c)) => (c <= m).then_some(other),
+            (Summary::Exact(c), Summary::AtMost(m)) => (c <= m).then_some(self),
+            (Summary::Exact(c), Summary::Exact(d)) => (c == d).then_some(self),
         }
     }
 
@@ -69,29 +52,28 @@ impl Summary {
     pub fn pass(self, relation: Relation, child: Summary) -> Option<Summary>
         ensures { result ≡ passed self relation child }
     {
-        match child.through(relation) {
-            Some(allowed) => self.meet(allowed),
-            None => None,
-        }
+        self.meet(child.through(relation)?)
     }
+}
 
-    // The code of a summary in a row: free 0, at most m is 1 + 2m, exact c is 2 + 2c.
-    pub fn code(self) -> u32
-        ensures value { result ≡ encode self }
-        ensures back { decode result ≡ self }
-    {
-        match self {
+// The code of a summary in a row: free 0, at most m is 1 + 2m, exact c is 2 + 2c.
+impl From<Summary> for u32 {
+    ghost from_gives = { Encodes };
+
+    fn from(summary: Summary) -> u32 {
+        match summary {
             Summary::Free => 0,
-            Summary::AtMost(m) => 1 + 2 * m as u32,
-            Summary::Exact(c) => 2 + 2 * c as u32,
+            Summary::AtMost(m) => 1 + 2 * u32::from(m),
+            Summary::Exact(c) => 2 + 2 * u32::from(c),
         }
     }
+}
 
-    // The summary that a row's number is the code of; every number is the code of one.
-    pub fn from_code(code: u16) -> Summary
-        ensures value { result ≡ decode code }
-        ensures back { encode result ≡ code }
-    {
+// The summary that a row's number is the code of; every number is the code of one.
+impl From<u16> for Summary {
+    ghost from_gives = { Decodes };
+
+    fn from(code: u16) -> Summary {
         if code == 0 {
             Summary::Free
         } else if code % 2 == 1 {
@@ -104,11 +86,9 @@ impl Summary {
 
 // That `through` gives exactly the parent numbers for which some child number meets the relation, that `meet` has
 // exactly the numbers of both, and that no summary is empty.
-pub fn summaries_stand() -> u8
+pub fn summaries_stand()
     ensures through { (r : Relation) (s : Summary) → Allowed r s (through r s) }
     ensures meet { (s t : Summary) → Both s t (meet s t) }
     ensures pass { (s : Summary) (r : Relation) (child : Summary) → Passes s r child (passed s r child) }
     ensures inhabited { Inhabited }
-{
-    0
-}
+{}

@@ -1,5 +1,5 @@
 -- What a row of a dialect may hold.
-use Rattle.std.specs.Prelude.{◌≡◌, ℕ, ◌+◌, ◌<◌, ◌≤◌, true, ◌⊎◌, List, [], length, get_or, take, is_some, Some, None, Option, slice_index_or}
+use Rattle.std.specs.Prelude.{◌≡◌, ℕ, ◌+◌, ◌<◌, ◌≤◌, min, true, cond, ◌⊎◌, List, [], length, get_or, take, replicate, is_some, Some, None, Option, nat_lt, slice_index_or, slice_set}
 use Rattle.indent.specs.Relations.{relation_at}
 use Rattle.rows.specs.declared.row.LiteralRow.{LiteralRow}
 use Rattle.rows.specs.declared.row.PlaceRow.{PlaceRow}
@@ -14,6 +14,14 @@ no_place = record { relation = 0; symbol = 0 }
 
 abbrev pub no_rule : RuleRow
 no_rule = record { left = 0; cost = 0; count = 0; places = [] }
+
+-- a rule without places
+abbrev pub no_places : ℕ → ℕ → RuleRow
+no_places left cost = record { left = left; cost = cost; count = 0; places = replicate 6 no_place }
+
+-- a rule with one place more: six are stored, and up to 255 are counted
+abbrev pub placed : RuleRow → PlaceRow → RuleRow
+placed row p = record { left = row.left; cost = row.cost; count = min (row.count + 1) 255; places = cond (nat_lt row.count 6) (slice_set row.places row.count p) row.places }
 
 abbrev pub Nonterminal : ℕ → Type 0
 Nonterminal s = (256 ≤ s) × (s ≤ 319)

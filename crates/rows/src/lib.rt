@@ -6,5 +6,5 @@ pub mod row;
 pub mod rule;
 
 pub use literal::literal_fault;
-pub use row::{LiteralRow, PlaceRow, RuleRow};
+pub use row::{DialectRows, LiteralRow, PlaceRow, RuleRow};
 pub use rule::{nonterminal, rule_fault};

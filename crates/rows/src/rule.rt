@@ -5,10 +5,11 @@ ghost use Rattle.rows.specs.Rows.{Nonterminal, Known, PlaceOk, RuleOk, RowOk, Fi
 use crate::row::{PlaceRow, RuleRow};
 use indent::Relation;
 
+// Whether the symbol is a nonterminal: 256 to 319.
 pub fn nonterminal(symbol: u16) -> bool
     ensures { Decides result (Nonterminal symbol) }
 {
-    symbol >= 256 && symbol <= 319
+    matches!(symbol, 256..=319)
 }
 
 // Whether a dialect with so many literals has the symbol.
@@ -23,24 +24,21 @@ fn known(symbol: u16, literals: usize) -> bool
     }
 }
 
-fn place_ok(place: PlaceRow, literals: usize) -> bool
-    ensures { Decides result (PlaceOk literals place) }
+// Whether a place of such a dialect may be this one.
+fn place_ok(place: &PlaceRow, literals: usize) -> bool
+    ensures { Decides result (PlaceOk literals place.now) }
 {
-    Relation::from_byte(place.relation).is_some() && known(place.symbol, literals)
+    Relation::try_from(place.relation).is_ok() && known(place.symbol, literals)
 }
 
+// Whether a rule of such a dialect may be this one.
 fn rule_ok(row: &RuleRow, literals: usize) -> bool
     ensures { Decides result (RuleOk literals row.now) }
 {
     if !nonterminal(row.left) || row.cost > 10_000 || row.count > 6 {
         return false;
     }
-    for k in 0..row.count as usize {
-        if !place_ok(row.places[k], literals) {
-            return false;
-        }
-    }
-    true
+    row.counted().iter().all(|place| place_ok(place, literals))
 }
 
 // The first rule row with a relation, symbol, cost or number of places that is not allowed; the start is the row after
@@ -48,14 +46,6 @@ fn rule_ok(row: &RuleRow, literals: usize) -> bool
 pub fn rule_fault(literals: usize, rules: &[RuleRow], start: u16) -> Option<usize>
     ensures { Finds (RowOk literals rules.now start) (length rules.now + 1) result }
 {
-    for i in 0..rules.len() {
-        if !rule_ok(&rules[i], literals) {
-            return Some(i);
-        }
-    }
-    if nonterminal(start) {
-        None
-    } else {
-        Some(rules.len())
-    }
+    let fault = rules.iter().position(|row| !rule_ok(row, literals));
+    fault.or((!nonterminal(start)).then_some(rules.len()))
 }

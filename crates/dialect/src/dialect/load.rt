@@ -2,58 +2,31 @@
 ghost use Rattle.dialect.specs.Loads.{Made, Loaded};
 
 use super::Dialect;
-use crate::examine::examine;
-use rows::{LiteralRow, RuleRow};
+use crate::examine::{Tables, examine};
+use rows::DialectRows;
 use std::alloc::Global;
 use tokens::Refusal;
 
 impl Dialect {
     // A dialect of the rows, or why there is none.
-    pub(crate) fn make(
-        heap: Global,
-        literals: &[LiteralRow],
-        rules: &[RuleRow],
-        start: u16,
-    ) -> Result<Dialect, Refusal>
-        ensures { Made literals.now rules.now start result }
+    pub(crate) fn make(heap: Global, rows: &DialectRows) -> Result<Dialect, Refusal>
+        ensures { Made rows.now.literals.now rows.now.rules.now rows.now.start result }
     {
-        match examine(literals, rules, start) {
-            Ok(tables) => match literals.to_vec(heap) {
-                Ok(literals) => match rules.to_vec(heap) {
-                    Ok(rules) => {
-                        let ranks = tables.ranks;
-                        Ok(Dialect {
-                            literals,
-                            rules,
-                            start,
-                            nullable: tables.nullable,
-                            ranks,
-                        })
-                    }
-                    Err(_) => Err(Refusal::NoMemory),
-                },
-                Err(_) => Err(Refusal::NoMemory),
-            },
-            Err(refusal) => Err(refusal),
-        }
+        let Tables { nullable, ranks } = examine(rows)?;
+        Ok(Dialect {
+            literals: rows.literals.to_vec(heap)?,
+            rules: rows.rules.to_vec(heap)?,
+            start: rows.start,
+            nullable,
+            ranks,
+        })
     }
 
     // Loads the rows, or says what is wrong with the first row at fault and leaves the dialect as it is.
-    pub fn load(
-        &mut self,
-        heap: Global,
-        literals: &[LiteralRow],
-        rules: &[RuleRow],
-        start: u16,
-    ) -> Result<(), Refusal>
-        ensures { Loaded self.old self.new literals.now rules.now start result }
+    pub fn load(&mut self, heap: Global, rows: &DialectRows) -> Result<(), Refusal>
+        ensures { Loaded self.old self.new rows.now.literals.now rows.now.rules.now rows.now.start result }
     {
-        match Dialect::make(heap, literals, rules, start) {
-            Ok(made) => {
-                *self = made;
-                Ok(())
-            }
-            Err(refusal) => Err(refusal),
-        }
+        *self = Dialect::make(heap, rows)?;
+        Ok(())
     }
 }

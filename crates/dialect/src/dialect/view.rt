@@ -5,7 +5,6 @@ ghost use Rattle.closure.specs.Ranks.{rank};
 ghost use Rattle.dialect.specs.Views.{literals_of, rules_of, grammar_of, WellFormed};
 
 use super::Dialect;
-use closure::contains;
 use rows::{LiteralRow, RuleRow, nonterminal};
 
 impl Dialect {
@@ -37,7 +36,7 @@ impl Dialect {
     pub fn is_nullable(&self, symbol: u16) -> bool
         ensures { Decides result (Nullable (grammar_of self.now) symbol) }
     {
-        contains(self.nullable, symbol)
+        self.nullable.contains(symbol)
     }
 
     // How many nonterminals a nonterminal gets to, and one more; 0 for a terminal. It falls along every step.

@@ -1,12 +1,12 @@
-use Rattle.std.proofs.Common.{◌<◌, length, sym, arith}
+use Rattle.std.proofs.Common.{◌∙◌, take, rules, tests}
+use Rattle.std.proofs.lemmas.Iterator.{YieldsList-from_slice}
+use Rattle.std.proofs.lemmas.Iterator.Search.{all_from_yields_List}
 use Rattle.closure.specs.Sets.{in_set}
-use Rattle.closure.proofs.Nulls.{every_place, some_place}
+use Rattle.closure.proofs.Nulls.{every_all}
 use Rattle.closure.proofs.nullable.all_in.Goals as goal
 
-pub returns-then-not-contains : goal.returns-then-not-contains
-returns-then-not-contains c =
-    let l : c.loop-k.k < length c.args.row.now.places = omega arith in
-    sym (some_place (in_set c.args.set) c.args.row.now c.loop-k.k c.loop-k-test.true l (sym c.if-not-contains.ensures))
-
 pub returns : goal.returns
-returns c = sym (every_place (in_set c.args.set) c.args.row.now (λ k h. c.loop-k.invariant k (omega arith)))
+returns c =
+    let f = in_set c.args.set in
+    let ps = take c.args.row.now.count c.args.row.now.places in
+    all_from_yields_List (λ p. f p.symbol) _ _ _ c.all.ensures.ran (YieldsList-from_slice ps cc) (λ x b q k. search (rules, tests)) ∙ every_all f ps

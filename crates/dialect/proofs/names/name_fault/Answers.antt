@@ -1,8 +1,17 @@
-use Rattle.std.proofs.Common.{ℕ, get_or, below_more}
-use Rattle.rows.specs.Rows.{no_rule, no_place}
-use Rattle.dialect.specs.Faults.{NamesRuled}
+use Rattle.std.proofs.Common.{◌≡◌, not, length, rules, tests}
+use Rattle.std.specs.Bool.{then_some}
+use Rattle.std.specs.Option.{option_or}
+use Rattle.std.proofs.lemmas.Iterator.{YieldsList-from_slice, IsFirst-from_position}
+use Rattle.closure.specs.Sets.{in_set}
+use Rattle.rows.proofs.Chains.{Not}
+use Rattle.dialect.proofs.Naming.{Within, names_found}
 use Rattle.dialect.proofs.names.name_fault.Goals as goal
 
-pub loop-i-preserved : goal.loop-i-preserved
-loop-i-preserved c = below_more (λ (k : ℕ). NamesRuled c.args.rules.now (get_or c.args.rules.now k no_rule)) c.loop-i.i c.loop-i.invariant
-    (λ k h n. (c.ruled-set.ensures (get_or (get_or c.args.rules.now c.loop-i.i no_rule).places k no_place).symbol).0 (c.names_within.ensures.0 c.if-not-names_within.false k h n))
+pub returns : goal.returns
+returns c =
+    let rs = c.args.rules.now.rows.now in
+    let P = Within c.ruled-set.result in
+    let e : c.or.result ≡ option_or c.position-fault.result (then_some (not (in_set c.ruled-set.result c.args.start)) (length rs)) = cc in
+    rw e
+    (names_found rs c.args.start c.ruled-set.result c.ruled-set.ensures _
+    (IsFirst-from_position _ _ _ (Not P) P c.position-fault.ensures.ran (YieldsList-from_slice rs cc) (λ x q k. search (rules, tests)) (λ x q k. search (rules, tests))))

@@ -1,8 +1,8 @@
 use Rattle.dialect.proofs.Naming.{ruled_none, ruled_more}
 use Rattle.dialect.proofs.names.ruled.Goals as goal
 
-pub loop-i-init : goal.loop-i-init
-loop-i-init c = ruled_none c.args.rules.now
+pub loop-rule-init : goal.loop-rule-init
+loop-rule-init c = ruled_none c.args.rules.now.rows.now c.new-out.result c.new-out.ensures
 
-pub loop-i-preserved : goal.loop-i-preserved
-loop-i-preserved c = ruled_more c.args.rules.now c.loop-i.out c.insert-out.result c.loop-i.i c.loop-i.invariant c.insert-out.ensures.symbols
+pub loop-rule-preserved : goal.loop-rule-preserved
+loop-rule-preserved c = ruled_more c.args.rules.now.rows.now c.loop-rule.out c.with-out.result c.loop-rule.rule-index c.loop-rule.invariant c.with-out.ensures.symbols

@@ -5,4 +5,4 @@ use Rattle.dialect.proofs.Loading.{builtin_made}
 use Rattle.dialect.proofs.dialect.Dialect.builtin.Goals as goal
 
 pub returns : goal.returns
-returns c = builtin_made c.make.result (subst (λ (x : List RuleRow). Made [] x 256 c.make.result) c.loose_rows-rows.ensures c.make.ensures)
+returns c = builtin_made c.make.result (subst (λ (x : List RuleRow). Made [] x 256 c.make.result) c.loose_rows.ensures c.make.ensures)

@@ -1,7 +1,0 @@
-use Rattle.std.proofs.Common.{◌≡◌, ℕ, ◌<◌, true, length, get_or}
-use Rattle.rows.specs.Rows.{no_place}
-use Rattle.closure.specs.Sets.{in_set}
-use Rattle.closure.proofs.step.others_in.Given as goal
-
-abbrev pub invariant-loop-k : goal.invariant-loop-k
-invariant-loop-k l = (k : ℕ) → k < l.k → k < length l.row.places → (k ≡ l.j → ⊥) → in_set l.set (get_or l.row.places k no_place).symbol ≡ true

@@ -1,7 +1,0 @@
-use Rattle.std.proofs.Common.{◌≡◌, ℕ, ◌<◌, true, get_or}
-use Rattle.rows.specs.Rows.{no_place, Nonterminal}
-use Rattle.closure.specs.Sets.{in_set}
-use Rattle.dialect.proofs.names.names_within.Given as goal
-
-abbrev pub invariant-loop-k : goal.invariant-loop-k
-invariant-loop-k l = (k : ℕ) → k < l.k → Nonterminal (get_or l.row.places k no_place).symbol → in_set l.set (get_or l.row.places k no_place).symbol ≡ true
