@@ -1,8 +1,9 @@
 -- What obeys the laws is the list and the ending of the script.
 use Rattle.std.proofs.Common.{◌≡◌, ℕ, suc, ◌+◌, ◌-◌, ◌<◌, ◌≤◌, true, eqb, leb, ◌⊎◌, List, [], ◌∷◌, length, get_or, drop, Some, None, Option, sym, refl, ap, ◌∙◌, subst, inl, inr, arith}
 use Rattle.std.specs.List.{prefix_len}
+use Rattle.std.proofs.lemmas.List.Sums.{prefix_len_is, prefix_len_passes}
 use Rattle.std.proofs.lemmas.List.{get_or-drop, length-drop, get_or_past, at_drop_all}
-use Rattle.std.proofs.lemmas.Bool.{cases_lt, le-leb, lt-leb, cond-true, cond-false, ne_eqb, false≢true}
+use Rattle.std.proofs.lemmas.Bool.{cases_lt, le-leb, lt-leb, cond-true, cond-false, ne_eqb}
 use Rattle.cutting.specs.declared.class.Class.{Class}
 use Rattle.cutting.specs.declared.class.Class.TheVariants.{Blank, Line, Hash, Letter, Digit, Quote, Sign, Other}
 use Rattle.cutting.specs.declared.fault.Fault.TheVariants.{StrayByte, UnclosedText, FarColumn, LongScript}
@@ -12,7 +13,7 @@ use Rattle.cutting.specs.Starts.{TokenClass, word, number, text, mark, nothing, 
 use Rattle.cutting.specs.Cuts.{placed, step, takes, fails, Span, Stop, end, fault, Cuts, ends, breaks, skip, cut}
 use Rattle.cutting.specs.Shapes.{BlankByte, IsWord, IsNumber, IsText, IsMark, Shaped, AllSound}
 use Rattle.cutting.specs.Laws.{Between, none, blank, comment, Laid, Unclosed, Ended, Determined}
-use Rattle.cutting.proofs.Runs.{led, leading_exact, tail_byte, run_is}
+use Rattle.cutting.proofs.Runs.{tail_byte, run_is}
 use Rattle.cutting.proofs.Classing.{blank_class, hash_class, feed_line, lineless, wordy_is, digital_is, letter_class, digit_class, quote_class, plain_line, plain_from, sign_class, other_class, starting, byte_starting}
 use Rattle.cutting.proofs.Steps.{here, divides_gap, short_step, step_is, long_step}
 
@@ -34,7 +35,7 @@ module _ (xs : List ℕ) (a : ℕ) (h : a < length xs) where
   start_comment : (n : ℕ) → a + n < length xs → get_or xs a 0 ≡ 35 → ((k : ℕ) → k < n → get_or xs (a + 1 + k) 0 ≡ 10 → ⊥) → (a + 1 + n < length xs → get_or xs (a + 1 + n) 0 ≡ 10) → start_of (drop a xs) ≡ gap (1 + n)
   start_comment n l q free feed =
       let d = length-drop (a + 1) xs in
-      start_by Hash (hash_class (get_or xs a 0) q) ∙ ap (λ k. gap (1 + k)) (leading_exact (λ b. on_line (classed b)) (drop (a + 1) xs) n (omega arith)
+      start_by Hash (hash_class (get_or xs a 0) q) ∙ ap (λ k. gap (1 + k)) (prefix_len_is (λ b. on_line (classed b)) (drop (a + 1) xs) n 0 (omega arith)
       (λ k b. lineless (get_or (drop (a + 1) xs) k 0) (λ e. free k b (sym (get_or-drop (a + 1) xs k 0) ∙ e)))
       (λ b. feed_line (get_or (drop (a + 1) xs) n 0) (get_or-drop (a + 1) xs n 0 ∙ feed (omega arith))))
 
@@ -46,7 +47,7 @@ module _ (xs : List ℕ) (a : ℕ) (h : a < length xs) where
       let d = length-drop (a + 1) xs in
       let two = w.two in
       let last : get_or (drop (a + 1) xs) (n - 2) 0 ≡ 34 = sym (tail_byte xs a (n - 2) (a + (n - 1)) (omega arith)) ∙ w.closes in
-      let m : prefix_len plain (drop (a + 1) xs) ≡ n - 2 = leading_exact plain (drop (a + 1) xs) (n - 2) (omega arith)
+      let m : prefix_len plain (drop (a + 1) xs) ≡ n - 2 = prefix_len_is plain (drop (a + 1) xs) (n - 2) 0 (omega arith)
       (λ k b. let t = tail_byte xs a k (a + suc k) (omega arith) in let i = w.inside (suc k) (omega arith) (omega arith) in plain_from (get_or (drop (a + 1) xs) k 0) (λ e. i.0 (t ∙ e)) (λ e. i.1 (t ∙ e)))
       (λ b. ap plain last) in
       rw m (rw last refl)
@@ -70,7 +71,7 @@ module _ (xs : List ℕ) (a : ℕ) (h : a < length xs) where
               let lo = j.1 in
               let hi = j.2 in
               let t = tail_byte xs a (j.0 - (a + 1)) j.0 (omega arith) in
-              let y = led plain (drop (a + 1) xs) (j.0 - (a + 1)) (omega arith) in
+              let y = prefix_len_passes plain (drop (a + 1) xs) (j.0 - (a + 1)) 0 (omega arith) in
               plain_line (get_or (drop (a + 1) xs) (j.0 - (a + 1)) 0) y (sym t ∙ j.3)
           go (inr s) = let z = get_or_past (drop (a + 1) xs) (prefix_len plain (drop (a + 1) xs)) 0 s in omega arith
 
@@ -81,9 +82,9 @@ module _ (xs : List ℕ) (a : ℕ) (h : a < length xs) where
   start_shape mark n z l w = start_mark n w
 
 far_starts : (c at : ℕ) (k : Class) (ys : List ℕ) → starting k ≡ true → 255 < c → placed c at (begins k ys) ≡ fails (FarColumn at)
-far_starts c at Blank ys e h = absurd (false≢true e)
-far_starts c at Line ys e h = absurd (false≢true e)
-far_starts c at Hash ys e h = absurd (false≢true e)
+far_starts c at Blank ys e h = cc
+far_starts c at Line ys e h = cc
+far_starts c at Hash ys e h = cc
 far_starts c at Letter ys e h = cond-false (leb c 255) _ _ (lt-leb _ _ h)
 far_starts c at Digit ys e h = cond-false (leb c 255) _ _ (lt-leb _ _ h)
 far_starts c at Quote ys e h = go (closed ys)
@@ -92,7 +93,7 @@ far_starts c at Quote ys e h = go (closed ys)
     go None = cond-false (leb c 255) _ _ (lt-leb _ _ h)
     go (Some n) = cond-false (leb c 255) _ _ (lt-leb _ _ h)
 far_starts c at Sign ys e h = cond-false (leb c 255) _ _ (lt-leb _ _ h)
-far_starts c at Other ys e h = absurd (false≢true e)
+far_starts c at Other ys e h = cc
 
 between_cuts : {xs : List ℕ} {a b : ℕ} → Between xs a b → length xs ≤ 65536 → (ss : List Span) (e : Stop) → Cuts xs b ss e → Cuts xs a ss e
 between_cuts {xs} (none q) short ss e c = subst (λ k. Cuts xs k ss e) (sym q) c

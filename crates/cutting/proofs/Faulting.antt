@@ -1,6 +1,7 @@
 -- Each fault is true of its script.
 use Rattle.std.proofs.Common.{◌≡◌, ℕ, ◌+◌, ◌-◌, ◌<◌, ◌≤◌, Bool, true, false, cond, eqb, ltb, leb, ◌⊎◌, List, length, get_or, drop, Some, None, Option, sym, refl, ap, ◌∙◌, subst, inl, inr, arith}
 use Rattle.std.specs.List.{prefix_len}
+use Rattle.std.proofs.lemmas.List.Sums.{prefix_len_passes, prefix_len_stops}
 use Rattle.std.proofs.lemmas.List.{length-drop, at_drop_all}
 use Rattle.std.proofs.lemmas.Bool.{cases_lt, leb-true, leb-false, ltb-true, ltb-false, eqb-false}
 use Rattle.cutting.specs.declared.class.Class.{Class}
@@ -12,51 +13,51 @@ use Rattle.cutting.specs.Classes.{classed}
 use Rattle.cutting.specs.Starts.{TokenClass, Start, nothing, gap, token, unclosed, stray, plain, closed, text_of, begins, start_of}
 use Rattle.cutting.specs.Cuts.{placed, step, stops, takes, fails, Span, Stop, Cuts, ends, breaks, skip, cut}
 use Rattle.cutting.specs.Laws.{Unclosed, Faulty, Ended, Faults}
-use Rattle.cutting.proofs.Runs.{led, unled, tail_byte}
+use Rattle.cutting.proofs.Runs.{tail_byte}
 use Rattle.cutting.proofs.Classing.{is_quote, plain_quote, unplain, other_unseen, other_blank, starting, starting_byte}
 use Rattle.cutting.proofs.Laying.{stopped_short}
 use Rattle.cutting.proofs.Steps.{here}
 
 begins_token : (c : Class) (ys : List ℕ) (s : TokenClass) (n : ℕ) → begins c ys ≡ token s n → starting c ≡ true
-begins_token Blank ys s n e = let z : ◌≡◌ {A = ℕ} 0 1 = cc in absurd (omega arith)
-begins_token Line ys s n e = let z : ◌≡◌ {A = ℕ} 0 1 = cc in absurd (omega arith)
-begins_token Hash ys s n e = let z : ◌≡◌ {A = ℕ} 0 1 = cc in absurd (omega arith)
+begins_token Blank ys s n e = cc
+begins_token Line ys s n e = cc
+begins_token Hash ys s n e = cc
 begins_token Letter ys s n e = refl
 begins_token Digit ys s n e = refl
 begins_token Quote ys s n e = refl
 begins_token Sign ys s n e = refl
-begins_token Other ys s n e = let z : ◌≡◌ {A = ℕ} 0 1 = cc in absurd (omega arith)
+begins_token Other ys s n e = cc
 
 text_none : (o : Option ℕ) → text_of o ≡ unclosed → o ≡ None
 text_none None e = refl
-text_none (Some n) e = let z : ◌≡◌ {A = ℕ} 0 1 = cc in absurd (omega arith)
+text_none (Some n) e = cc
 
 text_stray : (o : Option ℕ) → text_of o ≡ stray → ⊥
-text_stray None e = let z : ◌≡◌ {A = ℕ} 0 1 = cc in omega arith
-text_stray (Some n) e = let z : ◌≡◌ {A = ℕ} 0 1 = cc in omega arith
+text_stray None e = cc
+text_stray (Some n) e = cc
 
 begins_unclosed : (c : Class) (ys : List ℕ) → begins c ys ≡ unclosed → (c ≡ Quote) × (closed ys ≡ None)
-begins_unclosed Blank ys e = let z : ◌≡◌ {A = ℕ} 0 1 = cc in absurd (omega arith)
-begins_unclosed Line ys e = let z : ◌≡◌ {A = ℕ} 0 1 = cc in absurd (omega arith)
-begins_unclosed Hash ys e = let z : ◌≡◌ {A = ℕ} 0 1 = cc in absurd (omega arith)
-begins_unclosed Letter ys e = let z : ◌≡◌ {A = ℕ} 0 1 = cc in absurd (omega arith)
-begins_unclosed Digit ys e = let z : ◌≡◌ {A = ℕ} 0 1 = cc in absurd (omega arith)
+begins_unclosed Blank ys e = cc
+begins_unclosed Line ys e = cc
+begins_unclosed Hash ys e = cc
+begins_unclosed Letter ys e = cc
+begins_unclosed Digit ys e = cc
 begins_unclosed Quote ys e = (refl, text_none (closed ys) e)
-begins_unclosed Sign ys e = let z : ◌≡◌ {A = ℕ} 0 1 = cc in absurd (omega arith)
-begins_unclosed Other ys e = let z : ◌≡◌ {A = ℕ} 0 1 = cc in absurd (omega arith)
+begins_unclosed Sign ys e = cc
+begins_unclosed Other ys e = cc
 
 begins_stray : (c : Class) (ys : List ℕ) → begins c ys ≡ stray → c ≡ Other
-begins_stray Blank ys e = let z : ◌≡◌ {A = ℕ} 0 1 = cc in absurd (omega arith)
-begins_stray Line ys e = let z : ◌≡◌ {A = ℕ} 0 1 = cc in absurd (omega arith)
-begins_stray Hash ys e = let z : ◌≡◌ {A = ℕ} 0 1 = cc in absurd (omega arith)
-begins_stray Letter ys e = let z : ◌≡◌ {A = ℕ} 0 1 = cc in absurd (omega arith)
-begins_stray Digit ys e = let z : ◌≡◌ {A = ℕ} 0 1 = cc in absurd (omega arith)
+begins_stray Blank ys e = cc
+begins_stray Line ys e = cc
+begins_stray Hash ys e = cc
+begins_stray Letter ys e = cc
+begins_stray Digit ys e = cc
 begins_stray Quote ys e = absurd (text_stray (closed ys) e)
-begins_stray Sign ys e = let z : ◌≡◌ {A = ℕ} 0 1 = cc in absurd (omega arith)
+begins_stray Sign ys e = cc
 begins_stray Other ys e = refl
 
 none_cond : (t : Bool) (m : ℕ) → cond t (Some m) None ≡ None → t ≡ false
-none_cond true m e = let z : ◌≡◌ {A = ℕ} 0 1 = cc in absurd (omega arith)
+none_cond true m e = cc
 none_cond false m e = refl
 
 -- a quote behind an unclosed text stands behind a line feed
@@ -72,9 +73,9 @@ unclosed_text xs p e k h l q = go (cases_lt (prefix_len plain (drop (p + 1) xs))
     go : (prefix_len plain (drop (p + 1) xs) < k - (p + 1)) ⊎ (k - (p + 1) ≤ prefix_len plain (drop (p + 1) xs)) → (k - (p + 1) < prefix_len plain (drop (p + 1) xs)) ⊎ (prefix_len plain (drop (p + 1) xs) ≤ k - (p + 1)) → (j : ℕ) × (p < j) × (j < k) × (get_or xs j 0 ≡ 10)
     go (inl s) t =
         let d = length-drop (p + 1) xs in
-        let u = unled plain (drop (p + 1) xs) (omega arith) in
+        let u = prefix_len_stops plain (drop (p + 1) xs) 0 (omega arith) in
         (p + 1 + prefix_len plain (drop (p + 1) xs), omega arith, omega arith, tail_byte xs p (prefix_len plain (drop (p + 1) xs)) (p + 1 + prefix_len plain (drop (p + 1) xs)) refl ∙ unplain (get_or (drop (p + 1) xs) (prefix_len plain (drop (p + 1) xs)) 0) u no_quote)
-    go (inr s) (inl t) = absurd (plain_quote (get_or (drop (p + 1) xs) (k - (p + 1)) 0) (led plain (drop (p + 1) xs) (k - (p + 1)) t) (sym at_k ∙ q))
+    go (inr s) (inl t) = absurd (plain_quote (get_or (drop (p + 1) xs) (k - (p + 1)) 0) (prefix_len_passes plain (drop (p + 1) xs) (k - (p + 1)) 0 t) (sym at_k ∙ q))
     go (inr s) (inr t) =
         let v : k - (p + 1) ≡ prefix_len plain (drop (p + 1) xs) = omega arith in
         absurd (no_quote (ap (λ i. get_or (drop (p + 1) xs) i 0) (sym v) ∙ sym at_k ∙ q))
@@ -84,12 +85,12 @@ module _ (xs : List ℕ) (short : length xs ≤ 65536) (a : ℕ) (h : a < length
   far c e s l = (short, h, l, starting_byte (get_or xs a 0) (ap starting e ∙ s))
 
   fault_by : (s : Start) → begins (classed (get_or xs a 0)) (drop (a + 1) xs) ≡ s → (f : Fault) → placed (column_at xs a) a s ≡ fails f → Faulty xs f
-  fault_by nothing e f q = let z : ◌≡◌ {A = ℕ} 0 1 = cc in absurd (omega arith)
-  fault_by (gap m) e f q = let z : ◌≡◌ {A = ℕ} 0 1 = cc in absurd (omega arith)
+  fault_by nothing e f q = cc
+  fault_by (gap m) e f q = cc
   fault_by (token s m) e f q = go (leb (column_at xs a) 255) refl q
     where
       go : (t : Bool) → leb (column_at xs a) 255 ≡ t → cond t (takes s m) (fails (FarColumn a)) ≡ fails f → Faulty xs f
-      go true r w = let z : ◌≡◌ {A = ℕ} 0 1 = cc in absurd (omega arith)
+      go true r w = cc
       go false r w =
           let is : FarColumn a ≡ f = cc in
           subst (Faulty xs) is (far (classed (get_or xs a 0)) refl (begins_token (classed (get_or xs a 0)) (drop (a + 1) xs) s m e) (leb-false _ _ r))
@@ -115,7 +116,7 @@ fault_at xs a f e = go (ltb 65536 (length xs)) refl e (cases_lt a (length xs))
     go false q r (inl h) = fault_by xs (ltb-false _ _ q) a h (begins (classed (get_or xs a 0)) (drop (a + 1) xs)) refl f (ap (placed (column_at xs a) a) (sym (here xs a h)) ∙ r)
     go false q r (inr h) =
         let y : stops ≡ fails f = sym (ap (placed (column_at xs a) a) (at_drop_all start_of xs a h)) ∙ r in
-        let z : ◌≡◌ {A = ℕ} 0 1 = cc in absurd (omega arith)
+        cc
 
 ended_all : {xs : List ℕ} {a : ℕ} {ss : List Span} {e : Stop} → Cuts xs a ss e → Ended xs e
 ended_all {xs} (ends {at = a} q) = (stopped_short xs a q).0

@@ -1,6 +1,7 @@
 -- The tokens lie in the script one behind the other, with blanks and comments alone between them.
 use Rattle.std.proofs.Common.{◌≡◌, ℕ, ◌+◌, ◌<◌, ◌≤◌, Bool, true, false, cond, ltb, leb, ◌⊎◌, List, [], ◌∷◌, length, get_or, drop, Some, None, Option, sym, refl, ap, ◌∙◌, subst, inl, inr, arith}
 use Rattle.std.specs.List.{prefix_len}
+use Rattle.std.proofs.lemmas.List.Sums.{prefix_len_passes, prefix_len_stops}
 use Rattle.std.proofs.lemmas.Bool.{cases_lt, both_ways, ltb-false}
 use Rattle.std.proofs.lemmas.List.{get_or-drop, length-drop}
 use Rattle.std.proofs.lemmas.List.Sums.{prefix_len-le-length}
@@ -14,21 +15,20 @@ use Rattle.cutting.specs.Starts.{Start, nothing, gap, token, unclosed, stray, te
 use Rattle.cutting.specs.Cuts.{placed, step, stops, skips, takes, fails, Span, Stop, end, fault, Cuts, ends, breaks, skip, cut}
 use Rattle.cutting.specs.Whole.{skipped, skips_fit, takes_fit}
 use Rattle.cutting.specs.Laws.{Between, none, blank, comment, Reaches, Laid, Lays, Rising, Rises}
-use Rattle.cutting.proofs.Runs.{led, unled}
 use Rattle.cutting.proofs.Classing.{is_blank, is_line, is_hash, feed_line, line_feed}
 use Rattle.cutting.proofs.Steps.{here}
 
 -- a comment has no line feed, and ends before one
 comment_free : (xs : List ℕ) (a k : ℕ) → k < prefix_len (λ b. on_line (classed b)) (drop (a + 1) xs) → get_or xs (a + 1 + k) 0 ≡ 10 → ⊥
 comment_free xs a k h e =
-    let t = led (λ b. on_line (classed b)) (drop (a + 1) xs) k h in
+    let t = prefix_len_passes (λ b. on_line (classed b)) (drop (a + 1) xs) k 0 h in
     let f = feed_line (get_or (drop (a + 1) xs) k 0) (get_or-drop (a + 1) xs k 0 ∙ e) in
     both_ways _ f t
 
 line_ends : (xs : List ℕ) (a : ℕ) → a + 1 + prefix_len (λ b. on_line (classed b)) (drop (a + 1) xs) < length xs → get_or xs (a + 1 + prefix_len (λ b. on_line (classed b)) (drop (a + 1) xs)) 0 ≡ 10
 line_ends xs a l =
     let d = length-drop (a + 1) xs in
-    let u = unled (λ b. on_line (classed b)) (drop (a + 1) xs) (omega arith) in
+    let u = prefix_len_stops (λ b. on_line (classed b)) (drop (a + 1) xs) 0 (omega arith) in
     sym (get_or-drop (a + 1) xs (prefix_len (λ b. on_line (classed b)) (drop (a + 1) xs)) 0) ∙ line_feed (get_or (drop (a + 1) xs) (prefix_len (λ b. on_line (classed b)) (drop (a + 1) xs)) 0) u
 
 -- what is skipped is a blank or a comment
@@ -42,15 +42,15 @@ gap_begins xs a n b h Hash c e r =
     let l = prefix_len-le-length (λ b. on_line (classed b)) (drop (a + 1) xs) in
     let d = length-drop (a + 1) xs in
     comment m (omega arith) (is_hash _ c) (λ j j-below. comment_free xs a j j-below) (λ l. line_ends xs a l) (rw q at r)
-gap_begins xs a n b h Letter c e r = let z : ◌≡◌ {A = ℕ} 0 1 = cc in absurd (omega arith)
-gap_begins xs a n b h Digit c e r = let z : ◌≡◌ {A = ℕ} 0 1 = cc in absurd (omega arith)
+gap_begins xs a n b h Letter c e r = cc
+gap_begins xs a n b h Digit c e r = cc
 gap_begins xs a n b h Quote c e r = go (closed (drop (a + 1) xs)) e
   where
     go : (o : Option ℕ) → text_of o ≡ gap n → Between xs a b
-    go None q = let z : ◌≡◌ {A = ℕ} 0 1 = cc in absurd (omega arith)
-    go (Some m) q = let z : ◌≡◌ {A = ℕ} 0 1 = cc in absurd (omega arith)
-gap_begins xs a n b h Sign c e r = let z : ◌≡◌ {A = ℕ} 0 1 = cc in absurd (omega arith)
-gap_begins xs a n b h Other c e r = let z : ◌≡◌ {A = ℕ} 0 1 = cc in absurd (omega arith)
+    go None q = cc
+    go (Some m) q = cc
+gap_begins xs a n b h Sign c e r = cc
+gap_begins xs a n b h Other c e r = cc
 
 gap_between : (xs : List ℕ) (a n b : ℕ) → step xs a ≡ skips n → Between xs (a + n) b → Between xs a b
 gap_between xs a n b e r =
@@ -70,40 +70,40 @@ laid_before xs a n (s ∷ ss) e q r = (gap_between xs a n _ q r.0, r.1, r.2, r.3
 
 -- the script ends only where it is over
 begins_some : (c : Class) (ys : List ℕ) → begins c ys ≡ nothing → ⊥
-begins_some Blank ys e = let z : ◌≡◌ {A = ℕ} 0 1 = cc in omega arith
-begins_some Line ys e = let z : ◌≡◌ {A = ℕ} 0 1 = cc in omega arith
-begins_some Hash ys e = let z : ◌≡◌ {A = ℕ} 0 1 = cc in omega arith
-begins_some Letter ys e = let z : ◌≡◌ {A = ℕ} 0 1 = cc in omega arith
-begins_some Digit ys e = let z : ◌≡◌ {A = ℕ} 0 1 = cc in omega arith
+begins_some Blank ys e = cc
+begins_some Line ys e = cc
+begins_some Hash ys e = cc
+begins_some Letter ys e = cc
+begins_some Digit ys e = cc
 begins_some Quote ys e = go (closed ys) e
   where
     go : (o : Option ℕ) → text_of o ≡ nothing → ⊥
-    go None q = let z : ◌≡◌ {A = ℕ} 0 1 = cc in omega arith
-    go (Some m) q = let z : ◌≡◌ {A = ℕ} 0 1 = cc in omega arith
-begins_some Sign ys e = let z : ◌≡◌ {A = ℕ} 0 1 = cc in omega arith
-begins_some Other ys e = let z : ◌≡◌ {A = ℕ} 0 1 = cc in omega arith
+    go None q = cc
+    go (Some m) q = cc
+begins_some Sign ys e = cc
+begins_some Other ys e = cc
 
 placed_stops : (c at : ℕ) (f : Start) → placed c at f ≡ stops → f ≡ nothing
 placed_stops c at nothing e = refl
-placed_stops c at (gap n) e = let z : ◌≡◌ {A = ℕ} 0 1 = cc in absurd (omega arith)
+placed_stops c at (gap n) e = cc
 placed_stops c at (token s n) e = go (leb c 255) e
   where
     go : (t : Bool) → cond t (takes s n) (fails (FarColumn at)) ≡ stops → token s n ≡ nothing
-    go true h = let z : ◌≡◌ {A = ℕ} 0 1 = cc in absurd (omega arith)
-    go false h = let z : ◌≡◌ {A = ℕ} 0 1 = cc in absurd (omega arith)
+    go true h = cc
+    go false h = cc
 placed_stops c at unclosed e = go (leb c 255) e
   where
     go : (t : Bool) → cond t (fails (UnclosedText at)) (fails (FarColumn at)) ≡ stops → unclosed ≡ nothing
-    go true h = let z : ◌≡◌ {A = ℕ} 0 1 = cc in absurd (omega arith)
-    go false h = let z : ◌≡◌ {A = ℕ} 0 1 = cc in absurd (omega arith)
-placed_stops c at stray e = let z : ◌≡◌ {A = ℕ} 0 1 = cc in absurd (omega arith)
+    go true h = cc
+    go false h = cc
+placed_stops c at stray e = cc
 
 -- a script that ends is not too long
 pub stopped_short : (xs : List ℕ) (a : ℕ) → step xs a ≡ stops → (length xs ≤ 65536) × (start_of (drop a xs) ≡ nothing)
 stopped_short xs a e = go (ltb 65536 (length xs)) refl e
   where
     go : (t : Bool) → ltb 65536 (length xs) ≡ t → cond t (fails LongScript) (placed (column_at xs a) a (start_of (drop a xs))) ≡ stops → (length xs ≤ 65536) × (start_of (drop a xs) ≡ nothing)
-    go true q h = let z : ◌≡◌ {A = ℕ} 0 1 = cc in absurd (omega arith)
+    go true q h = cc
     go false q h = (ltb-false _ _ q, placed_stops (column_at xs a) a (start_of (drop a xs)) h)
 
 stopped : (xs : List ℕ) (a : ℕ) → step xs a ≡ stops → length xs ≤ a
@@ -115,12 +115,12 @@ stopped xs a e = go (cases_lt a (length xs))
 
 -- a fault's place is where it arises
 reaches_placed : (xs : List ℕ) (c at : ℕ) (f : Fault) (s : Start) → placed c at s ≡ fails f → Reaches xs at (fault f)
-reaches_placed xs c at f nothing e = let z : ◌≡◌ {A = ℕ} 0 1 = cc in absurd (omega arith)
-reaches_placed xs c at f (gap m) e = let z : ◌≡◌ {A = ℕ} 0 1 = cc in absurd (omega arith)
+reaches_placed xs c at f nothing e = cc
+reaches_placed xs c at f (gap m) e = cc
 reaches_placed xs c at f (token s m) e = go (leb c 255) e
   where
     go : (t : Bool) → cond t (takes s m) (fails (FarColumn at)) ≡ fails f → Reaches xs at (fault f)
-    go true h = let z : ◌≡◌ {A = ℕ} 0 1 = cc in absurd (omega arith)
+    go true h = cc
     go false h = let q : FarColumn at ≡ f = cc in subst (λ g. Reaches xs at (fault g)) q (none refl)
 reaches_placed xs c at f unclosed e = go (leb c 255) e
   where

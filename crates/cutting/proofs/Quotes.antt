@@ -1,33 +1,29 @@
--- The search for a closing quote: what it knows of the bytes before i, and what it answers there.
-use Rattle.std.proofs.Common.{◌≡◌, ℕ, ◌+◌, ◌<◌, ◌≤◌, true, false, List, length, get_or, drop, Some, None, refl, arith}
-use Rattle.std.specs.List.{prefix_len}
-use Rattle.std.proofs.lemmas.Bool.Decides.{nat_tests}
-use Rattle.std.proofs.lemmas.List.Sums.{prefix_len-drop_yes, prefix_len-drop_no, prefix_len-drop_all}
-use Rattle.std.proofs.lemmas.List.{get_or_past}
+-- The search for a closing quote: the first quote or line feed is where it ends.
+use Rattle.std.proofs.Common.{◌≡◌, ℕ, ◌+◌, Bool, true, false, cond, not, ◌&&◌, ◌||◌, ◌==◌, List, [], ◌∷◌, get_or, Some, None, refl, ap, ◌∙◌, arith}
+use Rattle.std.specs.Bool.{then_some}
+use Rattle.std.specs.List.{prefix_len, position, position_or_len}
 use Rattle.cutting.specs.Starts.{plain, closed}
 
-pub closed_here : (xs : List ℕ) (i : ℕ) → i < length xs → prefix_len plain xs ≡ i + prefix_len plain (drop i xs) → get_or xs i 0 ≡ 34 → closed xs ≡ Some i
-closed_here xs i h e q =
-    let p : plain (get_or xs i 0) ≡ false = grind (arith, nat_tests) in
-    let n = prefix_len-drop_no plain xs i 0 h p in
-    let m : prefix_len plain xs ≡ i = omega arith in
-    rw m (rw q refl)
+-- a quote or a line feed
+abbrev pub ends_text : ℕ → Bool
+ends_text b = b == 34 || b == 10
 
-pub closed_line : (xs : List ℕ) (i : ℕ) → i < length xs → prefix_len plain xs ≡ i + prefix_len plain (drop i xs) → get_or xs i 0 ≡ 10 → closed xs ≡ None
-closed_line xs i h e q =
-    let p : plain (get_or xs i 0) ≡ false = grind (arith, nat_tests) in
-    let n = prefix_len-drop_no plain xs i 0 h p in
-    let m : prefix_len plain xs ≡ i = omega arith in
-    rw m (rw q refl)
+same_test : (a b : Bool) (m n : ℕ) → m ≡ n → cond (not (a || b)) (1 + m) 0 ≡ cond (not a && not b) (1 + n) 0
+same_test true b m n e = refl
+same_test false true m n e = refl
+same_test false false m n e = omega arith
 
-pub closed_end : (xs : List ℕ) (i : ℕ) → length xs ≤ i → prefix_len plain xs ≡ i + prefix_len plain (drop i xs) → closed xs ≡ None
-closed_end xs i h e =
-    let n = prefix_len-drop_all plain xs i h in
-    let m : prefix_len plain xs ≡ i = omega arith in
-    rw m (rw (get_or_past xs i 0 h) refl)
+before_end : (xs : List ℕ) → position_or_len ends_text xs ≡ prefix_len plain xs
+before_end [] = refl
+before_end (x ∷ xs) = same_test (x == 34) (x == 10) _ _ (before_end xs)
 
-pub closed_more : (xs : List ℕ) (i : ℕ) → i < length xs → prefix_len plain xs ≡ i + prefix_len plain (drop i xs) → (get_or xs i 0 ≡ 34 → ⊥) → (get_or xs i 0 ≡ 10 → ⊥) → prefix_len plain xs ≡ i + 1 + prefix_len plain (drop (i + 1) xs)
-closed_more xs i h e q r =
-    let p : plain (get_or xs i 0) ≡ true = grind (arith, nat_tests) in
-    let n = prefix_len-drop_yes plain xs i 0 h p in
-    omega arith
+some_is : (t : Bool) (m n : ℕ) → cond t (Some m) None ≡ Some n → n ≡ m
+some_is true m n e = cc
+some_is false m n e = cc
+
+chosen : (t : Bool) (n : ℕ) → then_some t n ≡ cond t (Some n) None
+chosen true n = refl
+chosen false n = refl
+
+pub closed_at : (xs : List ℕ) (e : ℕ) → position ends_text xs ≡ Some e → then_some (get_or xs e 0 == 34) e ≡ closed xs
+closed_at xs e h = ap (λ n. then_some (get_or xs n 0 == 34) n) (some_is _ _ _ h ∙ before_end xs) ∙ chosen _ _

@@ -1,6 +1,7 @@
 -- Each token has the shape of its class.
 use Rattle.std.proofs.Common.{◌≡◌, ℕ, ◌+◌, ◌-◌, ◌<◌, eqb, List, length, get_or, drop, Some, None, Option, sym, refl, ap, ◌∙◌, subst, arith}
 use Rattle.std.specs.List.{prefix_len}
+use Rattle.std.proofs.lemmas.List.Sums.{prefix_len_passes}
 use Rattle.std.proofs.lemmas.Bool.{eqb-true}
 use Rattle.cutting.specs.declared.class.Class.{Class}
 use Rattle.cutting.specs.declared.class.Class.TheVariants.{Blank, Line, Hash, Letter, Digit, Quote, Sign, Other}
@@ -11,7 +12,7 @@ use Rattle.cutting.specs.Cuts.{step, takes, Span, Stop, Cuts, ends, breaks, skip
 use Rattle.cutting.specs.Whole.{some_cond, taken, takes_fit}
 use Rattle.cutting.specs.Shapes.{IsWord, IsNumber, IsText, IsMark, Shaped, Sound, AllSound}
 use Rattle.cutting.specs.Laws.{Sounds}
-use Rattle.cutting.proofs.Runs.{led, tail_byte, run_all, run_end}
+use Rattle.cutting.proofs.Runs.{tail_byte, run_all, run_end}
 use Rattle.cutting.proofs.Classing.{wordy_is, digital_is, is_letter, is_quote, plain_quote, plain_line, sign_seen, sign_letter, sign_digit, sign_quote, sign_hash}
 use Rattle.cutting.proofs.Steps.{here}
 
@@ -45,7 +46,7 @@ text_shape xs a m c e =
         let r = some_cond (eqb (get_or (drop (a + 1) xs) (prefix_len plain (drop (a + 1) xs)) 0) 34) (prefix_len plain (drop (a + 1) xs)) m e in
         let q = r.1 in
         let t = tail_byte xs a (k - 1) (a + k) (omega arith) in
-        let y = ap plain t ∙ led plain (drop (a + 1) xs) (k - 1) (omega arith) in
+        let y = ap plain t ∙ prefix_len_passes plain (drop (a + 1) xs) (k - 1) 0 (omega arith) in
         (plain_quote (get_or xs (a + k) 0) y, plain_line (get_or xs (a + k) 0) y)
 
 mark_shape : (xs : List ℕ) (a : ℕ) → classed (get_or xs a 0) ≡ Sign → IsMark xs a 1
@@ -55,18 +56,18 @@ shaped_at : (xs : List ℕ) (a : ℕ) {s r : TokenClass} {m n : ℕ} → s ≡ r
 shaped_at xs a {s} {r} {m} {n} p q h = subst (λ k. Shaped xs r a k) q (subst (λ k. Shaped xs k a m) p h)
 
 shape_by : (xs : List ℕ) (a n : ℕ) (s : TokenClass) (c : Class) → classed (get_or xs a 0) ≡ c → begins c (drop (a + 1) xs) ≡ token s n → Shaped xs s a n
-shape_by xs a n s Blank c e = let z : ◌≡◌ {A = ℕ} 0 1 = cc in absurd (omega arith)
-shape_by xs a n s Line c e = let z : ◌≡◌ {A = ℕ} 0 1 = cc in absurd (omega arith)
-shape_by xs a n s Hash c e = let z : ◌≡◌ {A = ℕ} 0 1 = cc in absurd (omega arith)
+shape_by xs a n s Blank c e = cc
+shape_by xs a n s Line c e = cc
+shape_by xs a n s Hash c e = cc
 shape_by xs a n s Letter c e = let p : word ≡ s = cc in let q : 1 + prefix_len (λ b. wordy (classed b)) (drop (a + 1) xs) ≡ n = cc in shaped_at xs a p q (word_shape xs a c)
 shape_by xs a n s Digit c e = let p : number ≡ s = cc in let q : 1 + prefix_len (λ b. digital (classed b)) (drop (a + 1) xs) ≡ n = cc in shaped_at xs a p q (number_shape xs a c)
 shape_by xs a n s Quote c e = go (closed (drop (a + 1) xs)) refl e
   where
     go : (o : Option ℕ) → closed (drop (a + 1) xs) ≡ o → text_of o ≡ token s n → Shaped xs s a n
-    go None o h = let z : ◌≡◌ {A = ℕ} 0 1 = cc in absurd (omega arith)
+    go None o h = cc
     go (Some m) o h = let p : text ≡ s = cc in let q : m + 2 ≡ n = cc in shaped_at xs a p q (text_shape xs a m c o)
 shape_by xs a n s Sign c e = let p : mark ≡ s = cc in let q : 1 ≡ n = cc in shaped_at xs a p q (mark_shape xs a c)
-shape_by xs a n s Other c e = let z : ◌≡◌ {A = ℕ} 0 1 = cc in absurd (omega arith)
+shape_by xs a n s Other c e = cc
 
 sound_at : (xs : List ℕ) (a n : ℕ) (s : TokenClass) → step xs a ≡ takes s n → Sound xs (record { class = s; place = a; column = column_at xs a; size = n })
 sound_at xs a n s e =

@@ -1,7 +1,7 @@
 -- What begins at an offset says what the tokens from there on are.
 use Rattle.std.proofs.Common.{◌≡◌, ℕ, ◌+◌, ◌<◌, ◌≤◌, true, List, ◌∷◌, length, get_or, drop, refl, ap, ◌∙◌}
 use Rattle.std.proofs.lemmas.List.{at_drop_more, at_drop_all}
-use Rattle.std.proofs.lemmas.Bool.{le-leb, lt-leb, le-ltb, lt-ltb, false≢true}
+use Rattle.std.proofs.lemmas.Bool.{le-leb, lt-leb, le-ltb, lt-ltb}
 use Rattle.cutting.specs.declared.class.Class.{Class}
 use Rattle.cutting.specs.declared.class.Class.TheVariants.{Blank, Line, Hash, Letter, Digit, Quote, Sign, Other}
 use Rattle.cutting.specs.declared.fault.Fault.{Fault}
@@ -20,12 +20,12 @@ here xs at h = at_drop_more start_of xs at 0 h
 pub divides_gap : (c : Class) (ys : List ℕ) → divides c ≡ true → begins c ys ≡ gap 1
 divides_gap Blank ys e = refl
 divides_gap Line ys e = refl
-divides_gap Hash ys e = absurd (false≢true e)
-divides_gap Letter ys e = absurd (false≢true e)
-divides_gap Digit ys e = absurd (false≢true e)
-divides_gap Quote ys e = absurd (false≢true e)
-divides_gap Sign ys e = absurd (false≢true e)
-divides_gap Other ys e = absurd (false≢true e)
+divides_gap Hash ys e = cc
+divides_gap Letter ys e = cc
+divides_gap Digit ys e = cc
+divides_gap Quote ys e = cc
+divides_gap Sign ys e = cc
+divides_gap Other ys e = cc
 
 pub same_trans : {xs : List ℕ} {a b c : ℕ} → Same xs a b → Same xs b c → Same xs a c
 same_trans p q = record { tokens = p.tokens ∙ q.tokens; ending = p.ending ∙ q.ending }

@@ -2,8 +2,8 @@
 use Rattle.std.specs.Prelude.{◌≡◌, ℕ, ◌+◌, ◌-◌, ◌<◌, ◌≤◌, true, false, ◌||◌, ◌⊎◌, List, [], ◌∷◌, length, ◌≢◌, slice_index, slice_index_or}
 use Rattle.cutting.specs.Columns.{column_at}
 use Rattle.cutting.specs.Classes.{within, letter, digit}
-use Rattle.cutting.specs.Starts.{TokenClass, word, number, text, mark}
 use Rattle.cutting.specs.Cuts.{Span}
+use Rattle.cutting.specs.Starts.{TokenClass, word, number, text, mark}
 
 -- the bytes that divide tokens: space, tab, line feed, carriage return
 abbrev pub BlankByte : ℕ → Type 0

@@ -27,7 +27,7 @@ Fitting n m = (0 < n) × (n ≤ m)
 
 pub some_cond : (t : Bool) (m n : ℕ) → cond t (Some m) None ≡ Some n → (t ≡ true) × (m ≡ n)
 some_cond true m n e = (refl, cc)
-some_cond false m n e = let z : ◌≡◌ {A = ℕ} 0 1 = cc in absurd (omega arith)
+some_cond false m n e = cc
 
 closed_fits : (xs : List ℕ) (n : ℕ) → closed xs ≡ Some n → n < length xs
 closed_fits xs n e = go (some_cond (slice_index xs (prefix_len plain xs) == 34) (prefix_len plain xs) n e) (cases_lt (prefix_len plain xs) (length xs))
@@ -66,61 +66,61 @@ start_past xs at f e d = go (drop at xs) refl
         omega (arith, start_fits (y ∷ ys) (omega arith))
 
 fails_skips : (n : ℕ) (f : Fault) → fails f ≢ skips n
-fails_skips n f e = let z : ◌≡◌ {A = ℕ} 0 1 = cc in omega arith
+fails_skips n f e = cc
 
 fails_takes : (c : TokenClass) (n : ℕ) (f : Fault) → fails f ≢ takes c n
-fails_takes c n f e = let z : ◌≡◌ {A = ℕ} 0 1 = cc in omega arith
+fails_takes c n f e = cc
 
 placed_skips : (c at n : ℕ) (f : Start) → placed c at f ≡ skips n → f ≡ gap n
-placed_skips c at n nothing e = let z : ◌≡◌ {A = ℕ} 0 1 = cc in absurd (omega arith)
+placed_skips c at n nothing e = cc
 placed_skips c at n (gap m) e = cc
 placed_skips c at n (token s m) e = go (nat_le c 255) e
   where
     go : (t : Bool) → cond t (takes s m) (fails (FarColumn at)) ≡ skips n → token s m ≡ gap n
-    go true h = let z : ◌≡◌ {A = ℕ} 0 1 = cc in absurd (omega arith)
-    go false h = absurd (fails_skips n _ h)
+    go true h = cc
+    go false h = cc
 placed_skips c at n unclosed e = go (nat_le c 255) e
   where
     go : (t : Bool) → cond t (fails (UnclosedText at)) (fails (FarColumn at)) ≡ skips n → unclosed ≡ gap n
-    go true h = absurd (fails_skips n _ h)
-    go false h = absurd (fails_skips n _ h)
-placed_skips c at n stray e = absurd (fails_skips n _ e)
+    go true h = cc
+    go false h = cc
+placed_skips c at n stray e = cc
 
 placed_takes : (c at n : ℕ) (s : TokenClass) (f : Start) → placed c at f ≡ takes s n → (f ≡ token s n) × (c ≤ 255)
-placed_takes c at n s nothing e = let z : ◌≡◌ {A = ℕ} 0 1 = cc in absurd (omega arith)
-placed_takes c at n s (gap m) e = let z : ◌≡◌ {A = ℕ} 0 1 = cc in absurd (omega arith)
+placed_takes c at n s nothing e = cc
+placed_takes c at n s (gap m) e = cc
 placed_takes c at n s (token r m) e = go (nat_le c 255) refl e
   where
     go : (t : Bool) → nat_le c 255 ≡ t → cond t (takes r m) (fails (FarColumn at)) ≡ takes s n → (token r m ≡ token s n) × (c ≤ 255)
     go true q h = (cc, leb-true _ _ q)
-    go false q h = absurd (fails_takes s n _ h)
+    go false q h = cc
 placed_takes c at n s unclosed e = go (nat_le c 255) e
   where
     go : (t : Bool) → cond t (fails (UnclosedText at)) (fails (FarColumn at)) ≡ takes s n → (unclosed ≡ token s n) × (c ≤ 255)
-    go true h = absurd (fails_takes s n _ h)
-    go false h = absurd (fails_takes s n _ h)
-placed_takes c at n s stray e = absurd (fails_takes s n _ e)
+    go true h = cc
+    go false h = cc
+placed_takes c at n s stray e = cc
 
 -- what a step that skips or takes says of the script
 pub skipped : (xs : List ℕ) (at n : ℕ) → step xs at ≡ skips n → (length xs ≤ 65536) × (start_of (drop at xs) ≡ gap n)
 skipped xs at n e = go (nat_lt 65536 (length xs)) refl e
   where
     go : (t : Bool) → nat_lt 65536 (length xs) ≡ t → cond t (fails LongScript) (placed (column_at xs at) at (start_of (drop at xs))) ≡ skips n → (length xs ≤ 65536) × (start_of (drop at xs) ≡ gap n)
-    go true q h = absurd (fails_skips n _ h)
+    go true q h = cc
     go false q h = (ltb-false _ _ q, placed_skips _ _ _ _ h)
 
 pub taken : (xs : List ℕ) (at n : ℕ) (s : TokenClass) → step xs at ≡ takes s n → (length xs ≤ 65536) × (start_of (drop at xs) ≡ token s n) × (column_at xs at ≤ 255)
 taken xs at n s e = go (nat_lt 65536 (length xs)) refl e
   where
     go : (t : Bool) → nat_lt 65536 (length xs) ≡ t → cond t (fails LongScript) (placed (column_at xs at) at (start_of (drop at xs))) ≡ takes s n → (length xs ≤ 65536) × (start_of (drop at xs) ≡ token s n) × (column_at xs at ≤ 255)
-    go true q h = absurd (fails_takes s n _ h)
+    go true q h = cc
     go false q h = let r = placed_takes _ _ _ _ _ h in (ltb-false _ _ q, r.0, r.1)
 
 pub skips_fit : (xs : List ℕ) (at n : ℕ) → step xs at ≡ skips n → Fitting n (length xs - at)
-skips_fit xs at n e = start_past xs at (gap n) (skipped xs at n e).1 (λ q. let z : ◌≡◌ {A = ℕ} 0 1 = cc in omega arith)
+skips_fit xs at n e = start_past xs at (gap n) (skipped xs at n e).1 (λ q. cc)
 
 pub takes_fit : (xs : List ℕ) (at n : ℕ) (s : TokenClass) → step xs at ≡ takes s n → Fitting n (length xs - at)
-takes_fit xs at n s e = start_past xs at (token s n) (taken xs at n s e).1 (λ q. let z : ◌≡◌ {A = ℕ} 0 1 = cc in omega arith)
+takes_fit xs at n s e = start_past xs at (token s n) (taken xs at n s e).1 (λ q. cc)
 
 -- the tokens and the ending from an offset on
 pub record Whole (xs : List ℕ) (at : ℕ) : Type 0 where

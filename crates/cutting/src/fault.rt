@@ -1,7 +1,7 @@
 // The faults of a script.
 
 // Why a script has no more tokens before its end.
-#[derive(Clone, Copy)]
+#[derive(Clone, Copy, Debug, PartialEq, Eq)]
 pub enum Fault {
     // The byte at the place starts no token.
     StrayByte(u32),

@@ -7,14 +7,6 @@ pub fn closing(part: &[u8]) -> Option<usize>
     ensures answer { result ≡ closed part.now }
     ensures inside { elim result [ Some n ↦ n < length part.now | None ↦ Unit {0} ] }
 {
-    let mut i = 0;
-    while i < part.len() {
-        match part[i] {
-            b'"' => return Some(i),
-            b'\n' => return None,
-            _ => {}
-        }
-        i += 1;
-    }
-    None
+    let end = part.iter().position(|b| matches!(b, b'"' | b'\n'))?;
+    (part[end] == b'"').then_some(end)
 }

@@ -1,7 +1,9 @@
 -- The turns of the cutter: what it knows in each state, and how each arm keeps it.
-use Rattle.std.proofs.Common.{◌≡◌, ℕ, ◌+◌, ◌-◌, ◌<◌, ◌≤◌, true, false, ◌⊎◌, List, length, get_or, take, drop, sym, refl, ap, ◌∙◌, inl, inr, arith}
+use Rattle.std.proofs.Common.{◌≡◌, ℕ, ◌+◌, ◌-◌, ◌<◌, ◌≤◌, true, false, ◌⊎◌, List, length, get_or, take, drop, None, Ok, Err, sym, refl, ap, ◌∙◌, inl, inr, arith}
 use Rattle.std.specs.List.{prefix_len}
+use Rattle.std.proofs.lemmas.List.{length-take, length-drop, take_rest, get_or-drop}
 use Rattle.std.proofs.lemmas.List.Sums.{prefix_len-drop_yes, prefix_len-drop_no, prefix_len-drop_all}
+use Rattle.cutting.specs.declared.class.Class.{Class}
 use Rattle.cutting.specs.declared.class.Class.TheVariants.{Line, Hash, Letter, Digit, Quote, Sign, Other}
 use Rattle.cutting.specs.declared.fault.Fault.TheVariants.{StrayByte}
 use Rattle.cutting.specs.Columns.{past, column_at}
@@ -15,7 +17,6 @@ use Rattle.script.specs.declared.cutter.State.{State}
 use Rattle.script.specs.declared.cutter.State.TheVariants as state
 use Rattle.script.specs.declared.position.Position.{Position}
 use Rattle.script.specs.declared.lexeme.Lexeme.{Lexeme}
-use Rattle.script.specs.declared.lexeme.Next.TheVariants.{End, Failed}
 use Rattle.script.specs.Lexemes.{held, class_of, NextPost, pieced}
 use Rattle.script.proofs.Pieces.{next_same, piece_post}
 
@@ -42,6 +43,22 @@ pub record Turn (s : State) (xs : List ℕ) (from : ℕ) (start at : Position) :
 
 pub turned : {s u : State} {xs : List ℕ} {from : ℕ} {start at : Position} → s ≡ u → Turn s xs from start at → Within u xs from start at.place
 turned e t = rw e at t.inside
+
+-- a byte of the rest of the script from an offset on
+pub within_rest : (xs : List ℕ) (from i at : ℕ) → i < length (take (length xs - from) (drop from xs)) → at ≡ from + i → at < length xs
+within_rest xs from i at h e = omega (arith, length-take (length xs - from) (drop from xs), length-drop from xs)
+
+pub behind_rest : (xs : List ℕ) (from i at : ℕ) → from ≤ length xs → length (take (length xs - from) (drop from xs)) ≤ i → at ≡ from + i → length xs ≤ at
+behind_rest xs from i at l h e = omega (arith, length-take (length xs - from) (drop from xs), length-drop from xs)
+
+pub byte_of_rest : (xs : List ℕ) (from i at : ℕ) → at ≡ from + i → get_or (take (length xs - from) (drop from xs)) i 0 ≡ get_or xs at 0
+byte_of_rest xs from i at e = ap (λ ys. get_or ys i 0) (take_rest xs from) ∙ get_or-drop from xs i 0 ∙ ap (λ k. get_or xs k 0) (sym e)
+
+pub class_here : (xs : List ℕ) (from i at : ℕ) (k : Class) → at ≡ from + i → k ≡ classed (get_or (take (length xs - from) (drop from xs)) i 0) → classed (get_or xs at 0) ≡ k
+class_here xs from i at k e q = ap classed (sym (byte_of_rest xs from i at e)) ∙ sym q
+
+pub past_here : (xs : List ℕ) (from i : ℕ) (at : Position) → at.place ≡ from + i → (behind : Position) → behind.column ≡ past at.column (get_or (take (length xs - from) (drop from xs)) i 0) → behind.column ≡ past at.column (get_or xs at.place 0)
+past_here xs from i at e behind q = q ∙ ap (past at.column) (byte_of_rest xs from i at.place e)
 
 -- at a byte of the script
 module _ (xs : List ℕ) (short : length xs ≤ 65536) (from at : ℕ) (h : at < length xs) where
@@ -101,7 +118,7 @@ module _ (xs : List ℕ) (short : length xs ≤ 65536) (from at : ℕ) (h : at <
   number_over c = prefix_len-drop_no (λ b. digital (classed b)) xs at 0 h c
 
   pub stray_post : classed (get_or xs at 0) ≡ Other → Same xs from at → Last xs from (fault (StrayByte at))
-  stray_post c s = next_same xs from at s (Failed (StrayByte at)) (last_stray xs short at (rw c at (here xs at h)))
+  stray_post c s = next_same xs from at s (Err (StrayByte at)) (last_stray xs short at (rw c at (here xs at h)))
 
 -- a mark is one byte
 pub mark_post : (xs : List ℕ) → length xs ≤ 65536 → (from : ℕ) (at e : Position) → at.place < length xs → classed (get_or xs at.place 0) ≡ Sign → Same xs from at.place → (part : Lexeme) → class_of part ≡ mark → held part ≡ take (e.place - at.place) (drop at.place xs) → at.column ≡ column_at xs at.place → e.place ≡ at.place + 1 → e.column ≡ past at.column (get_or xs at.place 0) → NextPost xs from (pieced part at e)
@@ -126,10 +143,10 @@ pub number_all : (xs : List ℕ) (at : ℕ) → length xs ≤ at → prefix_len 
 number_all xs at h = prefix_len-drop_all (λ b. digital (classed b)) xs at h
 
 blank_post : (xs : List ℕ) → length xs ≤ 65536 → (from at : ℕ) → length xs ≤ at → Same xs from at → Last xs from end
-blank_post xs short from at h s = next_same xs from at s End (last_end xs short at h)
+blank_post xs short from at h s = next_same xs from at s (Ok None) (last_end xs short at h)
 
 comment_post : (xs : List ℕ) → length xs ≤ 65536 → (from at : ℕ) → length xs ≤ at → Same xs from (at + prefix_len (λ b. on_line (classed b)) (drop at xs)) → Last xs from end
-comment_post xs short from at h s = next_same xs from (at + prefix_len (λ b. on_line (classed b)) (drop at xs)) s End (last_end xs short _ (omega arith))
+comment_post xs short from at h s = next_same xs from (at + prefix_len (λ b. on_line (classed b)) (drop at xs)) s (Ok None) (last_end xs short _ (omega arith))
 
 pub end_post : (s : State) → (s ≡ state.Blank) ⊎ (s ≡ state.Comment) → (xs : List ℕ) → length xs ≤ 65536 → (from : ℕ) (start at : Position) → length xs ≤ at.place → Turn s xs from start at → Last xs from end
 end_post s (inl e) xs short from start at h t = blank_post xs short from at.place h (turned e t)

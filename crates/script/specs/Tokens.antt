@@ -38,3 +38,11 @@ text_tokens ls xs at = map (token_at ls xs) (spans xs at)
 -- and how they end: the text source has the number 1
 abbrev pub text_ending : List ℕ → ℕ → Ending
 text_ending xs at = ending_of 1 (ending_at xs at)
+
+-- what a text source means: the tokens still to come, and what comes behind them
+pub record Meant : Type 0 where
+  pub tokens : List Token
+  pub ending : Ending
+
+abbrev pub meant_from : List LiteralRow → List ℕ → ℕ → Meant
+meant_from ls xs at = record { tokens = text_tokens ls xs at; ending = text_ending xs at }

@@ -4,9 +4,12 @@ ghost use Rattle.cutting.specs.Columns.{column_at};
 ghost use Rattle.cutting.specs.Starts.{start_of, text_of, closed};
 ghost use Rattle.script.specs.Lexemes.{NextPost, pieced};
 
-use super::lexeme::{Lexeme, Next, Piece};
+use super::lexeme::{Found, Lexeme, Piece};
 use super::position::Position;
 use cutting::{Class, Fault, class_of, closing, columns};
+
+// The most bytes that a script may have.
+const LONGEST: usize = 65_536;
 
 // Where the machine stands: between tokens, or inside one, or in a comment.
 #[derive(Clone, Copy)]
@@ -30,25 +33,23 @@ fn part<'a>(script: &'a [u8], start: Position, end: Position) -> &'a [u8]
 }
 
 // The lexeme from one position to another, unless its column is above 255.
-fn piece<'a>(lexeme: Lexeme<'a>, start: Position, end: Position) -> Next<'a>
+fn piece<'a>(lexeme: Lexeme<'a>, start: Position, end: Position) -> Found<'a>
     requires { start.place ≤ 65536 }
     ensures { result ≡ pieced lexeme.entry start end }
 {
     if start.column > 255 {
-        return Next::Failed(Fault::FarColumn(start.place as u32));
+        return Err(Fault::FarColumn(start.place as u32));
     }
-    Next::Cut(
-        Piece {
-            lexeme,
-            column: start.column as u32,
-            place: start.place as u32,
-        },
-        end,
-    )
+    let piece = Piece {
+        lexeme,
+        column: start.column as u32,
+        place: start.place as u32,
+    };
+    Ok(Some((piece, end)))
 }
 
 // The text that begins with the quote at `start`: the part behind it is searched for the closing one.
-fn text_piece<'a>(script: &'a [u8], start: Position, behind: Position) -> Next<'a>
+fn text_piece<'a>(script: &'a [u8], start: Position, behind: Position) -> Found<'a>
     requires short { length script.now ≤ 65536 }
     requires lies { start.place < length script.now }
     requires starts { start.column ≡ column_at script.now start.place }
@@ -65,24 +66,26 @@ fn text_piece<'a>(script: &'a [u8], start: Position, behind: Position) -> Next<'
             let end = Position { place, column };
             piece(Lexeme::Text(part(script, start, end)), start, end)
         }
-        None if start.column > 255 => Next::Failed(Fault::FarColumn(start.place as u32)),
-        None => Next::Failed(Fault::UnclosedText(start.place as u32)),
+        None if start.column > 255 => Err(Fault::FarColumn(start.place as u32)),
+        None => Err(Fault::UnclosedText(start.place as u32)),
     }
 }
 
 // The first piece from a position on.
-pub(crate) fn next_piece<'a>(script: &'a [u8], from: Position) -> Next<'a>
-    requires short { length script.now ≤ 65536 }
+#[tactic(auto, using(crate::proofs::Machine::within_rest))]
+pub(crate) fn next_piece<'a>(script: &'a [u8], from: Position) -> Found<'a>
     requires lies { from.place ≤ length script.now }
     requires column { from.column ≡ column_at script.now from.place }
     ensures { NextPost script.now from.place result }
 {
+    if script.len() > LONGEST {
+        return Err(Fault::LongScript);
+    }
     let mut state = State::Blank;
     let mut at = from;
     let mut start = from;
-    while at.place < script.len() {
-        let b = script[at.place];
-        match (state, class_of(b)) {
+    for b in &script[from.place..] {
+        match (state, class_of(*b)) {
             (State::Blank, Class::Blank | Class::Line) => {}
             (State::Blank, Class::Hash) => state = State::Comment,
             (State::Blank, Class::Letter) => {
@@ -98,10 +101,10 @@ pub(crate) fn next_piece<'a>(script: &'a [u8], from: Position) -> Next<'a>
                 start = at;
             }
             (State::Blank, Class::Sign) => {
-                let end = at.behind(b);
+                let end = at.behind(*b);
                 return piece(Lexeme::Mark(part(script, at, end)), at, end);
             }
-            (State::Blank, Class::Other) => return Next::Failed(Fault::StrayByte(at.place as u32)),
+            (State::Blank, Class::Other) => return Err(Fault::StrayByte(at.place as u32)),
             (State::Word, Class::Letter | Class::Digit) => {}
             (State::Word, _) => return piece(Lexeme::Word(part(script, start, at)), start, at),
             (State::Number, Class::Digit) => {}
@@ -110,10 +113,10 @@ pub(crate) fn next_piece<'a>(script: &'a [u8], from: Position) -> Next<'a>
             (State::Comment, Class::Line) => state = State::Blank,
             (State::Comment, _) => {}
         }
-        at = at.behind(b);
+        at = at.behind(*b);
     }
     match state {
-        State::Blank | State::Comment => Next::End,
+        State::Blank | State::Comment => Ok(None),
         State::Word => piece(Lexeme::Word(part(script, start, at)), start, at),
         State::Number => piece(Lexeme::Number(part(script, start, at)), start, at),
         State::Text => text_piece(script, start, at),

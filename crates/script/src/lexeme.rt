@@ -7,7 +7,7 @@ use super::position::Position;
 use cutting::Fault;
 
 // A part of the script itself, by its class.
-#[derive(Clone, Copy)]
+#[derive(Clone, Copy, Debug, PartialEq, Eq)]
 pub enum Lexeme<'a> {
     Word(&'a [u8]),
     Number(&'a [u8]),
@@ -16,20 +16,15 @@ pub enum Lexeme<'a> {
 }
 
 // A lexeme with its column and its place.
-#[derive(Clone, Copy)]
+#[derive(Clone, Copy, Debug, PartialEq, Eq)]
 pub struct Piece<'a> {
     pub lexeme: Lexeme<'a>,
     pub column: u32,
     pub place: u32,
 }
 
-// What the cutter finds: a piece and the position behind it, the end of the script, or a fault.
-#[derive(Clone, Copy)]
-pub enum Next<'a> {
-    Cut(Piece<'a>, Position),
-    End,
-    Failed(Fault),
-}
+// What the cutter finds: a piece and the position behind it, none at the end of the script, or a fault.
+pub type Found<'a> = Result<Option<(Piece<'a>, Position)>, Fault>;
 
 impl<'a> Lexeme<'a> {
     // The bytes.
@@ -37,10 +32,8 @@ impl<'a> Lexeme<'a> {
         ensures { result.now ≡ held self.entry }
     {
         match self {
-            Lexeme::Word(part) => part,
-            Lexeme::Number(part) => part,
-            Lexeme::Text(part) => part,
-            Lexeme::Mark(part) => part,
+            Lexeme::Word(part) | Lexeme::Number(part) | Lexeme::Text(part) | Lexeme::Mark(part) =>
+                part,
         }
     }
 

@@ -5,7 +5,7 @@ ghost use Rattle.cutting.specs.Columns.{past};
 use cutting::column_after;
 
 // An offset of a script, and the column of the byte that stands there.
-#[derive(Clone, Copy)]
+#[derive(Clone, Copy, Debug, PartialEq, Eq)]
 pub struct Position {
     pub place: usize,
     pub column: usize,

@@ -6,18 +6,15 @@ ghost use Rattle.cutting.specs.Cuts.{Span};
 ghost use Rattle.cutting.specs.Meaning.{spans, ending_at};
 ghost use Rattle.cutting.specs.Laws.{Lawful};
 ghost use Rattle.script.specs.Kinds.{class_kind, Kinded};
-ghost use Rattle.script.specs.Tokens.{refusal_of, part_of, text_tokens, text_ending};
+ghost use Rattle.script.specs.Tokens.{refusal_of, part_of, text_tokens, text_ending, Meant, meant_from};
 
 use super::cutter::next_piece;
-use super::lexeme::Next;
 use super::literals::token_of;
 use super::position::Position;
 use cutting::Fault;
 use dialect::Dialect;
-use tokens::{Asked, Refusal, Source};
-
-// The most bytes that a script may have.
-const LONGEST: usize = 65_536;
+use std::marker::Model;
+use tokens::{Refusal, Source, Token};
 
 // A script with the position from which on its tokens are still to come.
 #[derive(Drop)]
@@ -25,8 +22,15 @@ pub struct TextSource<'a, 'd> {
     script: &'a [u8],
     dialect: &'d Dialect,
     position: Position,
-    ghost lies: { position.place ≤ length script.now },
-    ghost stands: { position.column ≡ column_at script.now position.place },
+}
+
+// It is seen as what it means: the tokens still to come, and what comes behind them.
+impl<'a, 'd> Model for TextSource<'a, 'd> {
+    ghost Value = { Meant };
+
+    ghost view = { λ s. meant_from (literals_of s.dialect.now) s.script.now s.position.place };
+
+    ghost invariant = { λ s. (s.position.place ≤ length s.script.now) × (s.position.column ≡ column_at s.script.now s.position.place) };
 }
 
 // A fault of a script as the refusal of the source with this number.
@@ -45,8 +49,8 @@ impl<'a, 'd> TextSource<'a, 'd> {
     // A source of all the tokens of a script. They obey the laws of cutting, and each has the kind of the first literal
     // that is spelled like it, or else that of its class.
     pub fn new(script: &'a [u8], dialect: &'d Dialect) -> TextSource<'a, 'd>
-        ensures tokens { text_tokens (literals_of result.dialect.now) result.script.now result.position.place ≡ text_tokens (literals_of dialect.now) script.now 0 }
-        ensures ending { text_ending result.script.now result.position.place ≡ text_ending script.now 0 }
+        ensures tokens { result.tokens ≡ text_tokens (literals_of dialect.now) script.now 0 }
+        ensures ending { result.ending ≡ text_ending script.now 0 }
         ensures lawful { Lawful script.now 0 (spans script.now 0) (ending_at script.now 0) }
         ensures kinds { (s : Span) → Kinded (literals_of dialect.now) (part_of script.now s) (class_kind s.class) }
     {
@@ -66,9 +70,9 @@ impl<'a, 'd> Source for TextSource<'a, 'd> {
 
     ghost number = { 1 };
 
-    ghost tokens = { λ s. text_tokens (literals_of s.dialect.now) s.script.now s.position.place };
+    ghost tokens = { λ s. s.tokens };
 
-    ghost ending = { λ s. text_ending s.script.now s.position.place };
+    ghost ending = { λ s. s.ending };
 
     fn own_number() -> u16
         ensures { result ≡ 1 }
@@ -76,22 +80,19 @@ impl<'a, 'd> Source for TextSource<'a, 'd> {
         Self::NUMBER
     }
 
-    fn ask(&mut self) -> Asked {
-        if self.script.len() > LONGEST {
-            return Asked::Fault(refusal(Self::NUMBER, Fault::LongScript));
-        }
+    fn ask(&mut self) -> Result<Option<Token>, Refusal> {
         match next_piece(self.script, self.position) {
-            Next::Cut(piece, position) => {
-                let token = token_of(self.dialect.literals(), piece);
+            Ok(Some((piece, position))) => {
+                let token = token_of(self.dialect, piece);
                 *self = TextSource {
                     script: self.script,
                     dialect: self.dialect,
                     position,
                 };
-                Asked::Given(token)
+                Ok(Some(token))
             }
-            Next::End => Asked::End,
-            Next::Failed(fault) => Asked::Fault(refusal(Self::NUMBER, fault)),
+            Ok(None) => Ok(None),
+            Err(fault) => Err(refusal(Self::NUMBER, fault)),
         }
     }
 }

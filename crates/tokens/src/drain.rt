@@ -2,7 +2,7 @@
 ghost use Rattle.tokens.specs.Drained.{DrainedAll};
 
 use super::refusal::Refusal;
-use super::source::{Asked, Source};
+use super::source::Source;
 use super::token::Token;
 use std::alloc::{AllocError, Global};
 
@@ -20,17 +20,11 @@ pub fn drain_source<S: Source>(heap: Global, source: &mut S) -> Result<Drained, 
     let mut tokens = Vec::new(heap);
     loop {
         match source.ask() {
-            Asked::Given(token) => tokens.push(token)?,
-            Asked::End => {
+            Ok(Some(token)) => tokens.push(token)?,
+            ending => {
                 return Ok(Drained {
                     tokens,
-                    fault: None,
-                });
-            }
-            Asked::Fault(fault) => {
-                return Ok(Drained {
-                    tokens,
-                    fault: Some(fault),
+                    fault: ending.err(),
                 });
             }
         }

@@ -10,5 +10,5 @@ pub mod token;
 pub use drain::{Drained, drain_source};
 pub use list::ListSource;
 pub use refusal::{Refusal, Report};
-pub use source::{Asked, Source};
+pub use source::Source;
 pub use token::Token;

@@ -1,22 +1,31 @@
 // The list source: a table of tokens of any length, in order, and then the end.
-ghost use Rattle.std.specs.Prelude.{◌≡◌, drop};
-ghost use Rattle.tokens.specs.Sources.{Ending, answer, rest};
+ghost use Rattle.std.specs.Prelude.{◌≡◌, List};
+ghost use Rattle.tokens.specs.declared.token.Token.{Token};
+ghost use Rattle.tokens.specs.Sources.{Ending};
 
-use super::source::{Asked, Source};
+use super::refusal::Refusal;
+use super::source::Source;
 use super::token::Token;
+use std::marker::Model;
 
+// The rows of a table that are still to come.
 #[derive(Drop)]
 pub struct ListSource<'a> {
     tokens: &'a [Token],
-    at: usize,
+}
+
+impl<'a> Model for ListSource<'a> {
+    ghost Value = { List Token };
+
+    ghost view = { λ s. s.tokens.now };
 }
 
 impl<'a> ListSource<'a> {
     // A source of all the rows of the table.
     pub fn new(tokens: &'a [Token]) -> ListSource<'a>
-        ensures { drop result.at result.tokens.now ≡ tokens.now }
+        ensures { result ≡ tokens.now }
     {
-        ListSource { tokens, at: 0 }
+        ListSource { tokens }
     }
 }
 
@@ -25,7 +34,7 @@ impl<'a> Source for ListSource<'a> {
 
     ghost number = { 2 };
 
-    ghost tokens = { λ s. drop s.at s.tokens.now };
+    ghost tokens = { λ s. s };
 
     ghost ending = { λ s. Ending.end };
 
@@ -35,13 +44,7 @@ impl<'a> Source for ListSource<'a> {
         Self::NUMBER
     }
 
-    fn ask(&mut self) -> Asked {
-        if self.at < self.tokens.len() {
-            let token = self.tokens[self.at];
-            self.at += 1;
-            Asked::Given(token)
-        } else {
-            Asked::End
-        }
+    fn ask(&mut self) -> Result<Option<Token>, Refusal> {
+        Ok(self.tokens.split_off_first().copied())
     }
 }

@@ -1,11 +1,13 @@
 // Everything that is refused, and how it is told: a number, a place, a source, a token.
 ghost use Rattle.std.specs.Prelude.{◌≡◌};
+ghost use Rattle.tokens.specs.declared.refusal.Refusal.TheVariants.{NoMemory};
 ghost use Rattle.tokens.specs.Refusals.{report};
 
 use super::token::Token;
+use std::alloc::AllocError;
 
 // What is refused. docs/REFUSALS.md says of each case who causes it and in which order it is tested.
-#[derive(Clone, Copy)]
+#[derive(Clone, Copy, Debug, PartialEq, Eq)]
 pub enum Refusal {
     // A dialect has more than 64 literal rows or 256 rule rows.
     TooManyRows,
@@ -45,7 +47,7 @@ pub enum Refusal {
 
 // A refusal as it is told. The source is 0 where the refusal is not a fault of a source; the token is there where
 // a token was refused.
-#[derive(Clone, Copy)]
+#[derive(Clone, Copy, Debug, PartialEq, Eq)]
 pub struct Report {
     pub number: u16,
     pub place: u32,
@@ -68,10 +70,8 @@ fn fault(number: u16, place: u32, source: u16) -> Report
     ensures { result ≡ Rattle.tokens.specs.Refusals.fault number place source }
 {
     Report {
-        number,
-        place,
         source,
-        token: None,
+        ..plain(number, place)
     }
 }
 
@@ -79,10 +79,17 @@ fn unfed(number: u16, token: Token) -> Report
     ensures { result ≡ Rattle.tokens.specs.Refusals.unfed number token }
 {
     Report {
-        number,
-        place: token.place,
-        source: 0,
         token: Some(token),
+        ..plain(number, token.place)
+    }
+}
+
+impl From<AllocError> for Refusal {
+    ghost from_gives = { λ _ r. r ≡ NoMemory };
+
+    // The refusal where memory runs out.
+    fn from(_error: AllocError) -> Refusal {
+        Self::NoMemory
     }
 }
 

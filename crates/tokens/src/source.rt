@@ -6,14 +6,6 @@ ghost use Rattle.tokens.specs.Sources.{Ending, answer, rest};
 use super::refusal::Refusal;
 use super::token::Token;
 
-// What a source answers when it is asked.
-#[derive(Clone, Copy)]
-pub enum Asked {
-    Given(Token),
-    End,
-    Fault(Refusal),
-}
-
 // A source means a finite list of tokens still to come, and then an end or a fault. Asking gives the first token and
 // removes it; once the list is empty it gives the end or the fault every time, and the meaning stays.
 pub trait Source {
@@ -32,7 +24,8 @@ pub trait Source {
     fn own_number() -> u16
         ensures { result ≡ number };
 
-    fn ask(&mut self) -> Asked
+    // The next token, or none at the end; the fault, where the tokens end by one.
+    fn ask(&mut self) -> Result<Option<Token>, Refusal>
         ensures answer { result ≡ answer (tokens self.old) (ending self.old) }
         ensures tokens { tokens self.new ≡ rest (tokens self.old) }
         ensures ending { ending self.new ≡ ending self.old };
