@@ -6,7 +6,7 @@ use super::cap::capped;
 use super::semiring::Semiring;
 
 // The kind whose total says how many readings there are, capped. Its values are the numbers from 0 to the cap.
-#[derive(Clone, Copy)]
+#[derive(Clone, Copy, Debug, Default, PartialEq, Eq)]
 pub struct Count;
 
 impl Semiring for Count {

@@ -7,7 +7,7 @@ use super::semiring::Semiring;
 
 // The kind whose total is the least cost of a reading, capped, or nothing where there is no reading. Its values are
 // nothing and the numbers from 0 to the cap.
-#[derive(Clone, Copy)]
+#[derive(Clone, Copy, Debug, Default, PartialEq, Eq)]
 pub struct LeastCost;
 
 impl Semiring for LeastCost {

@@ -5,7 +5,7 @@ ghost use Rattle.semiring.specs.PairLaws.{pair_lawful};
 use super::semiring::Semiring;
 
 // The kind whose values have one of each of two kinds; every operation goes by each side.
-#[derive(Clone, Copy)]
+#[derive(Clone, Copy, Debug, Default, PartialEq, Eq)]
 pub struct Pair<A, B> {
     pub first: A,
     pub second: B,

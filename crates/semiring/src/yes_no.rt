@@ -5,7 +5,7 @@ ghost use Rattle.semiring.specs.YesNoLaws.{yes_no_lawful};
 use super::semiring::Semiring;
 
 // The kind whose total says whether there is a reading.
-#[derive(Clone, Copy)]
+#[derive(Clone, Copy, Debug, Default, PartialEq, Eq)]
 pub struct YesNo;
 
 impl Semiring for YesNo {
