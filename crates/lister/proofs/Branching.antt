@@ -1,10 +1,11 @@
 -- Where the least reading after a list leaves it.
 use Rattle.std.proofs.Common.{◌≡◌, ℕ, ◌+◌, ◌-◌, ◌<◌, ◌≤◌, ◌⊎◌, List, [], ◌∷◌, ◌++◌, length, get_or, take, drop, sym, refl, ap, ◌∙◌, subst, inl, inr, arith}
-use Rattle.std.proofs.lemmas.List.{append_assoc, append-nil, take_all, take_more, take-take, drop_more, take-append-drop}
+use Rattle.std.specs.List.{push}
+use Rattle.std.proofs.lemmas.List.{append_assoc, append-nil, take_all, take_at, take_more, take-take, drop_more, take-append-drop, length_push, length-take, length-take-le, get_or_push, get_or-take}
 use Rattle.lists.specs.Begins.{Begins}
 use Rattle.readings.specs.Order.{Before}
 use Rattle.readings.proofs.Ordering.{before_irreflexive, before_extension}
-use Rattle.lister.specs.Least.{Continues, Last, First}
+use Rattle.lister.specs.Least.{Last, First}
 use Rattle.lister.specs.Cursors.{Lowest, Nowhere}
 use Rattle.lister.specs.Branches.{Misses, Leads}
 use Rattle.lister.proofs.Off.{Off, off_before, off_at, off_last, before_cases, before_off}
@@ -58,10 +59,6 @@ leads_inside R L b v h m w = record { continues = w.continues; least = λ r f. r
     go r x f rx (inl o) = let s = begins_shorter (take b L) r v f.begins in inr (off_begins (take b L) r x (v ∷ s.0, s.1) o)
     go r x f rx (inr e) = first_behind R (take b L) r x e.1 (get_or L b 0 + 1) v e.0 w f (omega (arith, e.3)) rx e.2
 
--- where no reading begins with the first n of L
-pub misses_stop : (R : List ℕ → Type 0) (L : List ℕ) (n : ℕ) → (Continues R (take n L) → ⊥) → Misses R L n
-misses_stop R L n not x rx l b = not (b.0, subst R b.1 rx)
-
 -- where none goes on behind L
 pub misses_end : (R : List ℕ → Type 0) (L : List ℕ) (n : ℕ) → length L ≤ n → Nowhere R (take n L) 0 → Misses R L n
 misses_end R L n h w x rx l b = go b.0 b.1
@@ -89,20 +86,48 @@ pub record Sought (R At : List ℕ → Type 0) (L : List ℕ) (b : ℕ) : Type 0
   pub agrees : take (b - 1) prefix ≡ take (b - 1) L
   pub misses : Misses R L b
 
-misses_down : (R : List ℕ → Type 0) (L : List ℕ) (b : ℕ) → 0 < b → Misses R L b → Misses R L (b - 1 + 1)
-misses_down R L b h m = let e : b ≡ b - 1 + 1 = omega arith in subst (λ (n : ℕ). Misses R L n) e m
+-- at is the number of the last of the entries of L that were left, kept is that entry, and after are those before it
+pub record Taken (L left after : List ℕ) (at kept : ℕ) : Type 0 where
+  pub size : length left ≡ at + 1
+  pub inside : at < length L
+  pub entry : kept ≡ get_or L at 0
+  pub count : length after ≡ at
+  pub first : after ≡ take (length after) L
 
-module _ (R At At' : List ℕ → Type 0) (L : List ℕ) (b : ℕ) where
-  pub sought_less : 0 < b → b ≤ length L → Sought R At L b → At' (take (b - 1) L) → Nowhere R (take (b - 1) L) (get_or L (b - 1) 0 + 1) → Sought R At' L (b - 1)
-  sought_less h l s a w = record {
-    prefix = take (b - 1) L;
-    there = a;
-    agrees = take-take (b - 1 - 1) (b - 1) L (omega arith);
-    misses = misses_less R L (b - 1) (omega arith) (misses_down R L b h s.misses) w;
-  }
+pub taken : (L left after : List ℕ) (at kept : ℕ) → left ≡ take (length left) L → left ≡ push after kept → at ≡ length after → Taken L left after at kept
+taken L left after at kept f e n =
+    let size : length left ≡ at + 1 = omega (arith, ap length e, length_push after kept) in
+    let inside : at < length L = omega (arith, size, ap length f, length-take (length left) L) in
+    let cut : push after kept ≡ take (at + 1) L = sym e ∙ f ∙ ap (λ k. take k L) size in
+    record {
+      size = size;
+      inside = inside;
+      entry = sym (get_or_push after kept 0 at (sym n)) ∙ ap (λ (xs : List ℕ). get_or xs at 0) cut ∙ get_or-take (at + 1) L at 0 (omega arith);
+      count = sym n;
+      first = sym (take_at after (kept ∷ []) (length after) refl) ∙ ap (take (length after)) cut ∙ take-take (length after) (at + 1) L (omega arith);
+    }
 
-  pub sought_leads : (v : ℕ) → 0 < b → b ≤ length L → Sought R At L b → Lowest R (take (b - 1) L) (get_or L (b - 1) 0 + 1) v → Leads R L (take (b - 1) L ++ v ∷ [])
-  sought_leads v h l s w = leads_inside R L (b - 1) v (omega arith) (misses_down R L b h s.misses) w
+-- a search that begins with the first n of L
+pub sought_start : (R At : List ℕ → Type 0) (L left p : List ℕ) (n : ℕ) → left ≡ take n L → n ≤ length L → At p → take (n - 1) p ≡ take (n - 1) L → Misses R L n → Sought R At L (length left)
+sought_start R At L left p n e h a f m =
+    let l : n ≡ length left = sym (ap length e ∙ length-take-le n L h) in
+    subst (λ k. Sought R At L k) l (record { prefix = p; there = a; agrees = f; misses = m })
 
-pub sought_last : (R At : List ℕ → Type 0) (L : List ℕ) (b : ℕ) → b ≤ 0 → Sought R At L b → Last R L
-sought_last R At L b h s = let e : b ≡ 0 = omega arith in misses_last R L (subst (λ (n : ℕ). Misses R L n) e s.misses)
+module _ (R At : List ℕ → Type 0) (L left after : List ℕ) (at kept : ℕ) (k : Taken L left after at kept) (s : Sought R At L (length left)) where
+  -- where the cursor is once it went back
+  pub sought_at : take at s.prefix ≡ take at L
+  sought_at = let e : length left - 1 ≡ at = omega (arith, k.size) in subst (λ n. take n s.prefix ≡ take n L) e s.agrees
+
+  missed : Misses R L (at + 1)
+  missed = subst (λ n. Misses R L n) k.size s.misses
+
+  pub sought_less : (At' : List ℕ → Type 0) → At' (take at L) → Nowhere R (take at L) (kept + 1) → Sought R At' L (length after)
+  sought_less At' a w =
+      let w' = subst (λ v. Nowhere R (take at L) (v + 1)) k.entry w in
+      subst (λ n. Sought R At' L n) (sym k.count) (record { prefix = take at L; there = a; agrees = take-take (at - 1) at L (omega arith); misses = misses_less R L at k.inside missed w' })
+
+  pub sought_leads : (v : ℕ) → Lowest R (take at L) (kept + 1) v → Leads R L (take at L ++ v ∷ [])
+  sought_leads v w = leads_inside R L at v k.inside missed (subst (λ e. Lowest R (take at L) (e + 1) v) k.entry w)
+
+pub sought_last : (R At : List ℕ → Type 0) (L : List ℕ) (b : ℕ) → b ≡ 0 → Sought R At L b → Last R L
+sought_last R At L b e s = misses_last R L (subst (λ n. Misses R L n) e s.misses)

@@ -2,9 +2,9 @@
 use Rattle.std.proofs.Common.{◌≡◌, ℕ, ◌+◌, ◌-◌, ◌<◌, ◌≤◌, List, [], ◌∷◌, ◌++◌, length, take, drop, set, replicate, sym, ap, ◌∙◌, subst, arith}
 use Rattle.std.proofs.lemmas.List.{append_assoc, append-nil, take_more_set, take_all, drop-set-lt, drop-drop, drop-replicate, length-append, length-set, length-replicate, length-take-le}
 use Rattle.lister.specs.Least.{Lawful, Continues, First}
-use Rattle.lister.specs.Cursors.{Lowest}
+use Rattle.lister.specs.Cursors.{Lowest, Nowhere}
 use Rattle.lister.specs.Branches.{Completed}
-use Rattle.lister.proofs.Firsts.{Toward, toward_start, toward_more, toward_whole, toward_first, first_exists}
+use Rattle.lister.proofs.Firsts.{Toward, toward_start, toward_more, toward_whole, toward_first, first_exists, never_stuck}
 
 -- the cursor, at the prefixes of At, is behind what is written; first is the entry that was begun with
 pub record Turn (R At : List ℕ → Type 0) (p : List ℕ) (first : ℕ) (rest : List ℕ) (n rule : ℕ) : Type 0 where
@@ -53,6 +53,10 @@ module _ (R : List ℕ → Type 0) (p : List ℕ) (first : ℕ) where
         first = subst (λ (u : List ℕ). First R (p ++ first ∷ []) u) (sym (written rest n rule h)) (toward_whole R (p ++ first ∷ []) ((p ++ take n rest) ++ rule ∷ []) law t.toward r);
         zeros = zeros_more rest n rule t.zeros;
       }
+
+  -- what was walked goes on, or is whole
+  pub turn_goes_on : (At : List ℕ → Type 0) (rest : List ℕ) (n rule : ℕ) → Turn R At p first rest n rule → (R ((p ++ take n rest) ++ rule ∷ []) → ⊥) → Nowhere R ((p ++ take n rest) ++ rule ∷ []) 0 → ⊥
+  turn_goes_on At rest n rule t not none = never_stuck R ((p ++ take n rest) ++ rule ∷ []) t.toward.continues not none
 
   -- where rest ends first
   pub turn_full : (At : List ℕ → Type 0) (rest : List ℕ) (n rule : ℕ) → Lawful R → length rest ≤ n → Turn R At p first rest n rule → Continues R (p ++ first ∷ []) → (r : List ℕ) × First R (p ++ first ∷ []) r × (length p + length rest < length r)

@@ -25,3 +25,7 @@ Followed R At p rule false = At p × (Continues R (p ++ rule ∷ []) → ⊥)
 -- the cursor, which is at the prefixes of At, is somewhere
 abbrev pub Somewhere : (List ℕ → Type 0) → Type 0
 Somewhere At = (p : List ℕ) × At p
+
+-- P holds in every script in which the cursor stands, with the room that it has and the prefix that it walked
+abbrev pub Wherever : {Script : Type 0} → (Script → ℕ → List ℕ → Type 0) → (Script → ℕ → List ℕ → Type 0) → Type 0
+Wherever {Script} stands P = (t : Script) (room : ℕ) (p : List ℕ) → stands t room p → P t room p

@@ -32,6 +32,12 @@ Answered R L buffer (Ok (Some n)) = Found R L buffer n
 Answered R L buffer (Ok None) = Ended R L buffer
 Answered R L buffer (Err e) = TooLong R L buffer e
 
+-- the buffer with zeros in it where nothing is answered
+abbrev pub cleared : Result (Option ℕ) Refusal → List ℕ → List ℕ
+cleared (Ok (Some n)) buffer = buffer
+cleared (Ok None) buffer = replicate (length buffer) 0
+cleared (Err e) buffer = replicate (length buffer) 0
+
 -- a length that is answered is at most the buffer's
 abbrev pub Within : ℕ → Result (Option ℕ) Refusal → Type 0
 Within size (Ok (Some n)) = n ≤ size

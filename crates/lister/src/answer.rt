@@ -1,12 +1,33 @@
 // The least reading after a list.
-ghost use Rattle.std.specs.Prelude.{ℕ, ◌≤◌, List, length};
-ghost use Rattle.lister.specs.Cursors.{Somewhere};
-ghost use Rattle.lister.specs.Next.{Answered, Within};
+ghost use Rattle.std.specs.Prelude.{◌≤◌, length};
+ghost use Rattle.lister.specs.Cursors.{Somewhere, Wherever};
+ghost use Rattle.lister.specs.Next.{Answered, Within, cleared};
 
-use super::branch::find_branch;
+use super::branch::{Branch, find_branch};
 use super::cursor::Cursor;
 use super::writer::complete;
 use tokens::Refusal;
+
+// As `next`, but without an answer the buffer may hold anything.
+fn write_least<C: Cursor>(
+    cursor: &mut C,
+    list: &[u16],
+    buffer: &mut [u16],
+) -> Result<Option<usize>, Refusal>
+    ensures within { Within (length buffer.new) result }
+    ensures answered { Wherever (C.Cursor.stands cursor.old) (λ t room p. length buffer.old ≤ room → Somewhere (C.Cursor.stands cursor.new t room) × Answered (C.Cursor.readings t) list.now (cleared result buffer.new) result) }
+{
+    if buffer.len() < list.len() {
+        return Err(Refusal::LongList);
+    }
+    let Some(Branch { at, rule }) = find_branch(cursor, list) else {
+        return Ok(None);
+    };
+    let (kept, rest) = buffer.split_at_mut(at);
+    kept.copy_from_slice(&list[..at]);
+    let n = complete(cursor, rule, rest).ok_or(Refusal::LongList)?;
+    Ok(Some(at + n))
+}
 
 // Writes the least reading after the list into the buffer, with zeros behind it, and answers its length; None where
 // no reading is after the list. Where the list or that reading is longer than the buffer, it refuses. Without an answer
@@ -17,23 +38,11 @@ pub fn next<C: Cursor>(
     buffer: &mut [u16],
 ) -> Result<Option<usize>, Refusal>
     ensures within { Within (length buffer.new) result }
-    ensures answered { (t : C.Cursor.Script) (room : ℕ) (p : List ℕ) → C.Cursor.stands cursor.old t room p → length buffer.old ≤ room → Somewhere (C.Cursor.stands cursor.new t room) × Answered (C.Cursor.readings t) list.now buffer.new result }
+    ensures answered { Wherever (C.Cursor.stands cursor.old) (λ t room p. length buffer.old ≤ room → Somewhere (C.Cursor.stands cursor.new t room) × Answered (C.Cursor.readings t) list.now buffer.new result) }
 {
-    if buffer.len() < list.len() {
+    let answer = write_least(cursor, list, buffer);
+    if !matches!(answer, Ok(Some(_))) {
         buffer.fill(0);
-        return Err(Refusal::LongList);
     }
-    let Some(branch) = find_branch(cursor, list) else {
-        buffer.fill(0);
-        return Ok(None);
-    };
-    let at = branch.at;
-    buffer[0..at].copy_from_slice(&list[0..at]);
-    match complete(cursor, branch.rule, &mut buffer[at..]) {
-        Some(n) => Ok(Some(at + n)),
-        None => {
-            buffer.fill(0);
-            Err(Refusal::LongList)
-        }
-    }
+    answer
 }

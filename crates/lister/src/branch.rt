@@ -1,6 +1,6 @@
 // Where the least reading after a list leaves the list.
-ghost use Rattle.std.specs.Prelude.{◌≡◌, ℕ, ◌-◌, ◌≤◌, List, length, take};
-ghost use Rattle.lister.specs.Cursors.{Searched};
+ghost use Rattle.std.specs.Prelude.{◌≡◌, ◌-◌, ◌≤◌, length, take};
+ghost use Rattle.lister.specs.Cursors.{Searched, Wherever};
 ghost use Rattle.lister.specs.Branches.{Walked, Misses, Branches, Inside};
 
 use super::cursor::Cursor;
@@ -15,11 +15,11 @@ pub(crate) struct Branch {
 // Walks along the list from its start, as far as the walk stands, and says how far that is.
 fn walk<C: Cursor>(cursor: &mut C, list: &[u16]) -> usize
     ensures within { result ≤ length list.now }
-    ensures walked { (t : C.Cursor.Script) (room : ℕ) (p : List ℕ) → C.Cursor.stands cursor.old t room p → length list.now ≤ room → Walked (C.Cursor.readings t) (C.Cursor.stands cursor.new t room) list.now result }
+    ensures walked { Wherever (C.Cursor.stands cursor.old) (λ t room p. length list.now ≤ room → Walked (C.Cursor.readings t) (C.Cursor.stands cursor.new t room) list.now result) }
 {
     cursor.back(0);
-    for i in 0..list.len() {
-        if !cursor.follow(list[i]) {
+    for (i, &rule) in list.iter().enumerate() {
+        if !cursor.follow(rule) {
             return i;
         }
     }
@@ -28,7 +28,7 @@ fn walk<C: Cursor>(cursor: &mut C, list: &[u16]) -> usize
 
 // The least rule with which some reading goes on behind what was walked.
 fn extend<C: Cursor>(cursor: &mut C) -> Option<u16>
-    ensures { (t : C.Cursor.Script) (room : ℕ) (p : List ℕ) → C.Cursor.stands cursor.old t room p → C.Cursor.stands cursor.new t room p × Searched (C.Cursor.readings t) p 0 result }
+    ensures { Wherever (C.Cursor.stands cursor.old) (λ t room p. C.Cursor.stands cursor.new t room p × Searched (C.Cursor.readings t) p 0 result) }
 {
     if cursor.whole() {
         None
@@ -41,13 +41,11 @@ fn extend<C: Cursor>(cursor: &mut C) -> Option<u16>
 fn search_back<C: Cursor>(cursor: &mut C, list: &[u16], end: usize) -> Option<Branch>
     requires { end ≤ length list.now }
     ensures inside { Inside list.now result }
-    ensures branches { (t : C.Cursor.Script) (room : ℕ) (p : List ℕ) → C.Cursor.stands cursor.old t room p → take (end - 1) p ≡ take (end - 1) list.now → Misses (C.Cursor.readings t) list.now end → Branches (C.Cursor.readings t) (C.Cursor.stands cursor.new t room) list.now result }
+    ensures branches { Wherever (C.Cursor.stands cursor.old) (λ t room p. take (end - 1) p ≡ take (end - 1) list.now → Misses (C.Cursor.readings t) list.now end → Branches (C.Cursor.readings t) (C.Cursor.stands cursor.new t room) list.now result) }
 {
-    let mut at = end;
-    while 0 < at {
-        at -= 1;
+    for (at, &kept) in list[..end].iter().enumerate().rev() {
         cursor.back(at);
-        if let Some(rule) = cursor.least(list[at] as u32 + 1) {
+        if let Some(rule) = cursor.least(u32::from(kept) + 1) {
             return Some(Branch { at, rule });
         }
     }
@@ -57,7 +55,7 @@ fn search_back<C: Cursor>(cursor: &mut C, list: &[u16], end: usize) -> Option<Br
 // The branch of the least reading after the list; None where there is no such reading.
 pub(crate) fn find_branch<C: Cursor>(cursor: &mut C, list: &[u16]) -> Option<Branch>
     ensures inside { Inside list.now result }
-    ensures branches { (t : C.Cursor.Script) (room : ℕ) (p : List ℕ) → C.Cursor.stands cursor.old t room p → length list.now ≤ room → Branches (C.Cursor.readings t) (C.Cursor.stands cursor.new t room) list.now result }
+    ensures branches { Wherever (C.Cursor.stands cursor.old) (λ t room p. length list.now ≤ room → Branches (C.Cursor.readings t) (C.Cursor.stands cursor.new t room) list.now result) }
 {
     let walked = walk(cursor, list);
     if walked < list.len() {

@@ -1,6 +1,6 @@
 // The list of all readings.
 ghost use Rattle.std.specs.Prelude.{◌≡◌, ℕ, ◌+◌, ◌≤◌, List, [], ◌∷◌, ◌++◌, map, length, vec_items, vec_len, MatchResult, OnOk};
-ghost use Rattle.lister.specs.Cursors.{Somewhere};
+ghost use Rattle.lister.specs.Cursors.{Somewhere, Wherever};
 ghost use Rattle.lister.specs.Listing.{Law, last, Collects, Uncollected};
 ghost use Rattle.lister.specs.Next.{Blank, Determined};
 
@@ -13,9 +13,9 @@ use tokens::Refusal;
 fn last_of(lists: &[Vec<u16>]) -> &[u16]
     ensures { result.now ≡ last (map vec_items lists.now) }
 {
-    match lists.last() {
-        Some(list) => list.as_slice(),
-        None => &[],
+    match lists {
+        [.., list] => list,
+        [] => &[],
     }
 }
 
@@ -24,8 +24,7 @@ fn append(heap: Global, lists: &mut Vec<Vec<u16>>, list: &[u16]) -> Result<(), A
     ensures lists { OnOk result (map vec_items lists.new.items ≡ map vec_items lists.old.items ++ list.now ∷ []) }
     ensures len { OnOk result (vec_len lists.new ≡ vec_len lists.old + 1) }
 {
-    let copy = list.to_vec(heap)?;
-    lists.push(copy)?;
+    lists.push(list.to_vec(heap)?)?;
     Ok(())
 }
 
@@ -37,26 +36,21 @@ pub fn collect<C: Cursor>(
     cursor: &mut C,
     buffer: &mut [u16],
 ) -> Result<Vec<Vec<u16>>, Refusal>
-    ensures { (t : C.Cursor.Script) (room : ℕ) (p : List ℕ) → C.Cursor.stands cursor.old t room p → length buffer.old ≤ room → Somewhere (C.Cursor.stands cursor.new t room) × Blank buffer.new × MatchResult result (λ v. Collects (C.Cursor.readings t) (length buffer.old) (map vec_items v.items)) (λ e. Uncollected (C.Cursor.readings t) (length buffer.old) e) }
+    ensures { Wherever (C.Cursor.stands cursor.old) (λ t room p. length buffer.old ≤ room → Somewhere (C.Cursor.stands cursor.new t room) × Blank buffer.new × MatchResult result (λ v. Collects (C.Cursor.readings t) (length buffer.old) (map vec_items v.items)) (λ e. Uncollected (C.Cursor.readings t) (length buffer.old) e)) }
 {
     let mut lists = Vec::new(heap);
-    loop {
-        let found = next(cursor, last_of(lists.as_slice()), buffer)?;
-        let Some(n) = found else {
-            return Ok(lists);
-        };
-        let Ok(_) = append(heap, &mut lists, &buffer[0..n]) else {
+    while let Some(n) = next(cursor, last_of(&lists), buffer)? {
+        if append(heap, &mut lists, &buffer[..n]).is_err() {
             buffer.fill(0);
             return Err(Refusal::NoMemory);
-        };
+        }
     }
+    Ok(lists)
 }
 
 // A list and the length of the buffer determine what next answers and writes; and what is listed, from the empty list
 // on, by handing each answer back.
-pub fn listing_stands<C: Cursor>(cursor: &C) -> u8
-    ensures answers { (t : C.Cursor.Script) (room : ℕ) (p : List ℕ) → C.Cursor.stands cursor.now t room p → Determined (C.Cursor.readings t) }
-    ensures listing { (t : C.Cursor.Script) (room : ℕ) (p : List ℕ) → C.Cursor.stands cursor.now t room p → Law (C.Cursor.readings t) }
-{
-    0
-}
+pub fn listing_stands<C: Cursor>(cursor: &C)
+    ensures answers { Wherever (C.Cursor.stands cursor.now) (λ t room p. Determined (C.Cursor.readings t)) }
+    ensures listing { Wherever (C.Cursor.stands cursor.now) (λ t room p. Law (C.Cursor.readings t)) }
+{}

@@ -2,7 +2,7 @@
 ghost use Rattle.std.specs.Prelude.{ℕ, ◌+◌, ◌≤◌, List, [], ◌∷◌, ◌++◌, length, IfSome};
 ghost use Rattle.lister.specs.Least.{Continues};
 ghost use Rattle.lister.specs.Branches.{Completes};
-ghost use Rattle.lister.specs.Cursors.{Somewhere};
+ghost use Rattle.lister.specs.Cursors.{Somewhere, Wherever};
 
 use super::cursor::Cursor;
 
@@ -10,24 +10,19 @@ use super::cursor::Cursor;
 // is too short for it.
 pub(crate) fn complete<C: Cursor>(cursor: &mut C, rule: u16, rest: &mut [u16]) -> Option<usize>
     ensures within { IfSome result (λ n. n ≤ length rest.new) }
-    ensures completes { (t : C.Cursor.Script) (room : ℕ) (p : List ℕ) → C.Cursor.stands cursor.old t room p → length p + length rest.old ≤ room → Continues (C.Cursor.readings t) (p ++ rule ∷ []) → Somewhere (C.Cursor.stands cursor.new t room) × Completes (C.Cursor.readings t) p rule rest.new result }
+    ensures completes { Wherever (C.Cursor.stands cursor.old) (λ t room p. length p + length rest.old ≤ room → Continues (C.Cursor.readings t) (p ++ rule ∷ []) → Somewhere (C.Cursor.stands cursor.new t room) × Completes (C.Cursor.readings t) p rule rest.new result) }
 {
     rest.fill(0);
     let mut next = rule;
-    let mut n = 0;
-    while n < rest.len() {
-        rest[n] = next;
-        n += 1;
+    for (n, entry) in rest.iter_mut().enumerate() {
+        *entry = next;
         if !cursor.follow(next) {
             return None;
         }
         if cursor.whole() {
-            return Some(n);
+            return Some(n + 1);
         }
-        let Some(least) = cursor.least(0) else {
-            return None;
-        };
-        next = least;
+        next = cursor.least(0)?;
     }
     None
 }

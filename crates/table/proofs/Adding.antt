@@ -1,14 +1,14 @@
 -- Items added to a table: none, one, and one growth behind another.
-use Rattle.std.proofs.Common.{◌≡◌, ℕ, ◌+◌, ◌<◌, ◌≤◌, ◌⊎◌, List, [], ◌∷◌, ◌++◌, map, length, set, Some, None, Option, sym, ap, ◌∙◌, subst, inl, inr, ⊎_elim, append_assoc, append-nil, arith}
+use Rattle.std.proofs.Common.{◌≡◌, ℕ, ◌+◌, ◌<◌, ◌≤◌, true, false, ◌⊎◌, List, [], ◌∷◌, ◌++◌, map, length, set, Some, None, Option, is_some, sym, ap, ◌∙◌, subst, inl, inr, ⊎_elim, append_assoc, append-nil, arith}
 use mathlib.Core.List.Memᴰ
 use mathlib.Core.List.{map-append}
-use Rattle.std.proofs.lemmas.Bool.{cases_lt}
+use Rattle.std.proofs.lemmas.Bool.{cases_lt, false≢true}
 use Rattle.lists.specs.Members.{◌∈◌, Distinct}
 use Rattle.lists.proofs.Distinct.{distinct_push}
 use Rattle.charts.specs.Chart.{Item}
 use Rattle.table.specs.declared.row.ItemRow.{ItemRow}
-use Rattle.table.specs.Rows.{item_of, row_at, item_at}
-use Rattle.table.specs.Growth.{since, Adds, Overfull, AddsR, Is, OnlyR, Range}
+use Rattle.table.specs.Rows.{item_of, item_at}
+use Rattle.table.specs.Growth.{since, Adds, Overfull, AddsR, Finds, Is, OnlyR, Range}
 use Rattle.table.proofs.Growing.{grown_old, grown_none, grown_push, spilt_push, grown_join, spilt_join}
 use Rattle.table.proofs.Since.{since_front, since_has, item_kept}
 
@@ -105,15 +105,24 @@ at_is made row e z i = subst (λ (v : Option ItemRow). Is v z) (sym e) i
 pub adds_nothing : (base : ℕ) (xs : List ItemRow) (n : ℕ) (made : Option ItemRow) → made ≡ None → base ≤ n → n ≤ length xs → Adds base (Is made) xs xs n n
 adds_nothing base xs n made e l h = adds_none base (Is made) xs n l h (λ z i. absurd (subst (λ (v : Option ItemRow). Is v z) e i))
 
-module _ (base : ℕ) (xs : List ItemRow) (n : ℕ) (made : Option ItemRow) (row : ItemRow) (e : made ≡ Some row) where
-  pub adds_there : base ≤ n → n ≤ length xs → (k : ℕ) → base ≤ k → k < n → row_at xs k ≡ row → Adds base (Is made) xs xs n n
-  adds_there l h k p q i = adds_none base (Is made) xs n l h (λ z j. Memᴰ.cast (is_at made row e z j ∙ ap item_of (sym i)) (since_has base k n xs p q h))
+-- what a search for the row says, by whether it found one
+found_there : (base n : ℕ) (xs : List ItemRow) (row : ItemRow) (r : Option ℕ) → n ≤ length xs → Finds xs base n row r → is_some r ≡ true → item_of row ∈ since base n xs
+found_there base n xs row (Some k) h f e = Memᴰ.cast (sym (ap item_of f.2)) (since_has base k n xs f.0 f.1 h)
+found_there base n xs row None h f e = absurd (false≢true e)
 
-  pub adds_made : base ≤ n → n < length xs → (item_of row ∈ since base n xs → ⊥) → Adds base (Is made) xs (set xs n row) n (n + 1)
-  adds_made l h out = adds_same (adds_push base n xs row l h out) (at_is made row e) (is_at made row e)
+not_there : (base n : ℕ) (xs : List ItemRow) (row : ItemRow) (r : Option ℕ) → Finds xs base n row r → is_some r ≡ false → item_of row ∈ since base n xs → ⊥
+not_there base n xs row (Some k) f e = absurd (false≢true (sym e))
+not_there base n xs row None f e = f
 
-  pub over_made : base ≤ n → n ≤ length xs → length xs ≤ n → (item_of row ∈ since base n xs → ⊥) → Overfull base (Is made) xs xs n
-  over_made l h full out = over_widen (over_push base n xs row l h full out) (at_is made row e)
+module _ (base : ℕ) (xs : List ItemRow) (n : ℕ) (made : Option ItemRow) (row : ItemRow) (e : made ≡ Some row) (r : Option ℕ) (f : Finds xs base n row r) where
+  pub adds_there : base ≤ n → n ≤ length xs → is_some r ≡ true → Adds base (Is made) xs xs n n
+  adds_there l h q = adds_none base (Is made) xs n l h (λ z j. Memᴰ.cast (is_at made row e z j) (found_there base n xs row r h f q))
+
+  pub adds_made : base ≤ n → n < length xs → is_some r ≡ false → Adds base (Is made) xs (set xs n row) n (n + 1)
+  adds_made l h q = adds_same (adds_push base n xs row l h (not_there base n xs row r f q)) (at_is made row e) (is_at made row e)
+
+  pub over_made : base ≤ n → n ≤ length xs → length xs ≤ n → is_some r ≡ false → Overfull base (Is made) xs xs n
+  over_made l h full q = over_widen (over_push base n xs row l h full (not_there base n xs row r f q)) (at_is made row e)
 
 -- what was made is the only item with P
 pub is_to : (P : Item → Type 0) (made : Option ItemRow) → OnlyR P made → (z : Item) → Is made z → P z

@@ -1,8 +1,9 @@
 -- The items of the rows from one number up to another.
-use Rattle.std.proofs.Common.{◌≡◌, ℕ, zero, suc, ◌+◌, ◌-◌, ◌<◌, ◌≤◌, List, [], ◌∷◌, ◌++◌, map, length, get_or, take, drop, Some, sym, refl, ap, ◌∙◌, subst, ⊎_elim, arith}
+use Rattle.std.proofs.Common.{◌≡◌, ℕ, zero, suc, ◌+◌, ◌-◌, ◌<◌, ◌≤◌, List, [], ◌∷◌, ◌++◌, map, length, get_or, take, drop, Some, sym, refl, ap, ◌∙◌, arith}
 use mathlib.Core.List.Memᴰ
 use mathlib.Core.List.{map-append}
-use Rattle.std.proofs.lemmas.List.{take_more, take-map, take-take, take-append-drop, drop-take, drop-append-le, drop_all, length-map, length-drop, length-take-le, get_or-take, get_or-drop}
+use Rattle.std.proofs.lemmas.List.{take_more, take-map, take-take, take-append-drop, drop-take, drop-append-le, length-map, length-drop, length-take-le, get_or-take, get_or-drop}
+use Rattle.std.specs.List.{AllWithin}
 use Rattle.lists.specs.Entries.{nth}
 use Rattle.lists.specs.Members.{◌∈◌, Distinct}
 use Rattle.lists.proofs.Mapped.{mapped_from}
@@ -12,13 +13,8 @@ use Rattle.table.specs.declared.row.ItemRow.{ItemRow}
 use Rattle.table.specs.Rows.{no_item, item_of, row_at, item_at}
 use Rattle.table.specs.Growth.{since}
 use Rattle.table.proofs.Growing.{get_d_kept}
+use Rattle.table.proofs.Meaning.{item_same}
 use Rattle.table.proofs.Rising.{member_at}
-
-pub since_nil : (base : ℕ) (xs : List ItemRow) → base ≤ length xs → since base base xs ≡ []
-since_nil base xs h = ap (map item_of) (drop_all base (take base xs) (omega (arith, length-take-le base xs h)))
-
-pub since_empty : (base : ℕ) (xs : List ItemRow) → base ≤ length xs → {x : Item} → x ∈ since base base xs → ⊥
-since_empty base xs h {x} m = let k : x ∈ [] = subst (λ (l : List Item). x ∈ l) (since_nil base xs h) m in elim k [ ]
 
 pub since_length : (base m : ℕ) (xs : List ItemRow) → m ≤ length xs → length (since base m xs) ≡ m - base
 since_length base m xs l = length-map (drop base (take m xs)) item_of ∙ length-drop base (take m xs) ∙ ap (λ (i : ℕ). i - base) (length-take-le m xs l)
@@ -53,10 +49,6 @@ since_split base j n xs b h l =
 pub since_has : (base j n : ℕ) (xs : List ItemRow) → base ≤ j → j < n → n ≤ length xs → item_at xs j ∈ since base n xs
 since_has base j n xs b h l = rw (since_split base (j + 1) n xs (omega arith) (omega arith) l)
     (Memᴰ.append_left (since (j + 1) n xs) (rw (since_more base j xs b (omega arith)) (Memᴰ.append_right (since base j xs) (Memᴰ.head refl))))
-
--- a search that goes on
-pub since_not : (base j : ℕ) (xs : List ItemRow) (x : Item) → base ≤ j → j < length xs → (x ∈ since base j xs → ⊥) → (x ≡ item_at xs j → ⊥) → x ∈ since base (j + 1) xs → ⊥
-since_not base j xs x b h f g m = ⊎_elim f (λ i. g (Memᴰ.eq_of_singleton i)) (Memᴰ.append_cases (since base j xs) (rw (since_more base j xs b h) at m))
 
 pub since_nth : (base m i : ℕ) (xs : List ItemRow) → base ≤ i → i < m → m ≤ length xs → nth (since base m xs) (i - base) ≡ Some (item_at xs i)
 since_nth base m i xs lo lt hi =
@@ -93,3 +85,12 @@ distinct_nth (y ∷ l) d (suc j) (suc k) h i = ap suc (distinct_nth l d.1 j k h 
 -- where no item stands twice, equal items have one number
 pub index_one : (base m : ℕ) (xs : List ItemRow) → m ≤ length xs → Distinct (since base m xs) → (j k : ℕ) → base ≤ j → base ≤ k → j < m → k < m → item_at xs j ≡ item_at xs k → j ≡ k
 index_one base m xs h d j k p q a b e = omega (arith, distinct_nth (since base m xs) d (j - base) (k - base) (since_nth base m j xs p a h) (since_nth base m k xs q b h ∙ ap Some (sym e)))
+
+-- what stands at no number of a stretch is not there
+pub since_none : (lo hi : ℕ) (xs : List ItemRow) (row : ItemRow) → lo ≤ hi → hi ≤ length xs → AllWithin (λ x. x ≡ row → ⊥) (take (hi - lo) (drop lo xs)) 0 (length (take (hi - lo) (drop lo xs))) → item_of row ∈ since lo hi xs → ⊥
+since_none lo hi xs row h l none m =
+    let (k, i, j, e) = index_of lo hi xs l (item_of row) m in
+    let w : lo + (k - lo) ≡ k = omega arith in
+    let long = length-take-le (hi - lo) (drop lo xs) (omega (arith, length-drop lo xs)) in
+    let at = get_or-take (hi - lo) (drop lo xs) (k - lo) no_item (omega arith) ∙ get_or-drop lo xs (k - lo) no_item ∙ ap (row_at xs) w in
+    none (k - lo) no_item (omega arith) (omega arith) (at ∙ item_same _ _ e)

@@ -6,7 +6,5 @@ pub fn fill_from<T: Copy>(rows: &mut [T], n: usize, row: T)
     requires { n ≤ length rows.old }
     ensures { rows.new ≡ take n rows.old ++ replicate (length rows.old - n) row }
 {
-    for i in n..rows.len() {
-        rows[i] = row;
-    }
+    rows[n..].fill_with(|| row);
 }

@@ -3,6 +3,7 @@ ghost use Rattle.std.specs.Prelude.{◌≡◌, ℕ, ◌≤◌, length};
 ghost use Rattle.table.specs.Order.{Narrowed, Sorts};
 
 use super::row::{ItemRow, LinkRow};
+use std::ops::Range;
 
 // A row with a key that its table stands by: the end of an item, the item of a link.
 pub trait Keyed {
@@ -28,29 +29,19 @@ impl Keyed for LinkRow {
     }
 }
 
-// The first of the rows from low up to high whose key is at least the one wanted, by halves.
-pub fn first_at<R: Keyed>(rows: &[R], low: usize, high: usize, wanted: usize) -> usize
-    requires { (low ≤ high) × (high ≤ length rows.now) }
-    ensures { Narrowed R.key rows.now low high wanted result result }
+// The first of the rows of the range whose key is at least the one wanted, by halves.
+pub fn first_at<R: Keyed>(rows: &[R], range: Range<usize>, wanted: usize) -> usize
+    requires { (range.start ≤ range.end) × (range.end ≤ length rows.now) }
+    ensures { Narrowed R.key rows.now range.start range.end wanted result result }
 {
-    let mut lo = low;
-    let mut hi = high;
-    while lo < hi {
-        let mid = lo + (hi - lo) / 2;
-        if rows[mid].key() < wanted {
-            lo = mid + 1;
-        } else {
-            hi = mid;
-        }
-    }
-    lo
+    let start = range.start;
+    start + rows[range].partition_point(|row| row.key() < wanted)
 }
 
-// Sorts the links from low up to high by their items' rows.
-pub fn sort_between(links: &mut [LinkRow], low: usize, high: usize)
-    requires { (low ≤ high) × (high ≤ length links.old) }
-    ensures { Sorts links.old links.new low high }
+// Sorts the links of the range by their items' rows.
+pub fn sort_between(links: &mut [LinkRow], range: Range<usize>)
+    requires { (range.start ≤ range.end) × (range.end ≤ length links.old) }
+    ensures { Sorts links.old links.new range.start range.end }
 {
-    let part = &mut links[low..high];
-    part.sort_unstable();
+    links[range].sort_unstable();
 }

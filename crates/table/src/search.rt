@@ -1,26 +1,18 @@
 // Item rows found among others, and added where they are not there yet.
-ghost use Rattle.std.specs.Prelude.{◌≡◌, ◌≤◌, length, Decides};
+ghost use Rattle.std.specs.Prelude.{◌≤◌, length};
 ghost use Rattle.table.specs.Growth.{Finds, Is, AddsR};
 
 use super::row::ItemRow;
+use std::ops::Range;
 
-fn equal(a: ItemRow, b: ItemRow) -> bool
-    ensures { Decides result (a ≡ b) }
+// The number of a row of the range that is equal to the one given.
+pub fn find_row(items: &[ItemRow], range: Range<usize>, row: ItemRow) -> Option<usize>
+    requires { (range.start ≤ range.end) × (range.end ≤ length items.now) }
+    ensures { Finds items.now range.start range.end row result }
 {
-    a == b
-}
-
-// The number of a row from low up to high that is equal to the one given.
-pub fn find_row(items: &[ItemRow], low: usize, high: usize, row: ItemRow) -> Option<usize>
-    requires { (low ≤ high) × (high ≤ length items.now) }
-    ensures { Finds items.now low high row result }
-{
-    for i in low..high {
-        if equal(items[i], row) {
-            return Some(i);
-        }
-    }
-    None
+    let start = range.start;
+    let found = items[range].iter().position(|other| *other == row)?;
+    Some(start + found)
 }
 
 // Adds the row that was made, if one was, behind the first n, unless an equal one stands from base on. Answers how many
@@ -34,17 +26,15 @@ pub fn add_made(
     requires { (base ≤ n) × (n ≤ length items.old) }
     ensures { AddsR base (Is made) items.old items.new n result }
 {
-    match made {
-        None => Some(n),
-        Some(row) => match find_row(items, base, n, row) {
-            Some(_) => Some(n),
-            None => {
-                if n >= items.len() {
-                    return None;
-                }
-                items[n] = row;
-                Some(n + 1)
-            }
-        },
+    let Some(row) = made else {
+        return Some(n);
+    };
+    if find_row(items, base..n, row).is_some() {
+        return Some(n);
     }
+    if n >= items.len() {
+        return None;
+    }
+    items[n] = row;
+    Some(n + 1)
 }

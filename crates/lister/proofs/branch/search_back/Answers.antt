@@ -1,36 +1,41 @@
-use Rattle.std.proofs.Common.{◌<◌, subst, arith}
-use Rattle.lister.proofs.Branching.{sought_less, sought_leads, sought_last}
+use Rattle.std.proofs.Common.{◌≡◌, length, take, refl, sym, ap, ◌∙◌, subst, rules, arith}
+use Rattle.std.proofs.lemmas.List.{length-take-le}
+use Rattle.std.specs.List.{push}
+use Rattle.lister.proofs.Branching.{taken, sought_start, sought_at, sought_less, sought_leads, sought_last}
 use Rattle.lister.proofs.branch.search_back.Goals as goal
 
 pub loop-at-init : goal.loop-at-init
-loop-at-init g c = (c.requires, λ t room p s e m. record { prefix = p; there = s; agrees = e; misses = m })
+loop-at-init g c =
+    let e : c.into_iter-at-iterator.result.iter.iter.rest.now ≡ take c.args.end c.args.list.now = search rules in
+    let l : length (take c.args.end c.args.list.now) ≡ c.args.end = length-take-le c.args.end c.args.list.now c.requires in
+    (rw e (rw l refl), search rules, λ t room p s f m. sought_start _ _ _ _ p c.args.end e c.requires s f m)
 
 pub loop-at-preserved : goal.loop-at-preserved
-loop-at-preserved g c = (
-  omega arith,
-  λ t room p s e m.
-      let k : 0 < c.loop-at.at = omega arith in
-      let i = c.loop-at.invariant.1 t room p s e m in
-      let a = subst (g.C.Cursor.stands c.back.new.self t room) i.agrees (c.back.ensures t room i.prefix i.there) in
-      let h = c.in_default.ensures t room _ a in
-      sought_less _ _ _ c.args.list.now c.loop-at.at k c.loop-at.invariant.0 i h.0 h.1,
-)
+loop-at-preserved g c =
+    let (first, zero, sought) = c.loop-at.invariant in
+    let (count, (behind, number, _)) = c.in-Some.ensures.steps in
+    let k = taken c.args.list.now _ _ c.in-Some.at c.from.result first (behind ∙ ap (push _) (sym c.from.ensures)) (omega (arith, zero, number)) in (
+      k.first,
+      count ∙ zero,
+      λ t room p s e m.
+          let i = sought t room p s e m in
+          let a = subst (g.C.Cursor.stands c.back.new.self t room) (sought_at _ _ _ _ _ _ _ k i) (c.back.ensures t room i.prefix i.there) in
+          let h = c.in_default.ensures t room _ a in
+          sought_less _ _ _ _ _ _ _ k i _ h.0 h.1,
+    )
 
-pub returns : goal.returns
-returns g c = record {
-  inside = tt;
-  branches = λ t room p s e m.
-      let i = c.loop-at.invariant.1 t room p s e m in
-      ((i.prefix, i.there), sought_last _ _ c.args.list.now c.loop-at.at (omega arith) i);
-}
+pub returns-in-Some-least-clause-branches : goal.returns-in-Some-least-clause-branches
+returns-in-Some-least-clause-branches g c =
+    let (first, zero, sought) = c.loop-at.invariant in
+    let (count, (behind, number, _)) = c.in-Some.ensures.steps in
+    let k = taken c.args.list.now _ _ c.in-Some.at c.from.result first (behind ∙ ap (push _) (sym c.from.ensures)) (omega (arith, zero, number)) in
+    λ t room p s e m.
+    let i = sought t room p s e m in
+    let a = subst (g.C.Cursor.stands c.back.new.self t room) (sought_at _ _ _ _ _ _ _ k i) (c.back.ensures t room i.prefix i.there) in
+    let h = c.in-Some-least.ensures t room _ a in
+    (h.0, sought_leads _ _ _ _ _ _ _ k i _ h.1)
 
-pub returns-in-Some : goal.returns-in-Some
-returns-in-Some g c = record {
-  inside = omega arith;
-  branches = λ t room p s e m.
-      let k : 0 < c.loop-at.at = omega arith in
-      let i = c.loop-at.invariant.1 t room p s e m in
-      let a = subst (g.C.Cursor.stands c.back.new.self t room) i.agrees (c.back.ensures t room i.prefix i.there) in
-      let h = c.in-Some.ensures t room _ a in
-      (h.0, sought_leads _ _ (g.C.Cursor.stands c.back.new.self t room) c.args.list.now c.loop-at.at _ k c.loop-at.invariant.0 i h.1);
-}
+pub returns-clause-branches : goal.returns-clause-branches
+returns-clause-branches g c = λ t room p s e m.
+    let i = c.loop-at.invariant.2 t room p s e m in
+    ((i.prefix, i.there), sought_last _ _ _ _ c.in-None.ensures.steps.1.0 i)
