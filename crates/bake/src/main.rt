@@ -5,6 +5,7 @@
 use anyhow::anyhow;
 use lines::answer::{Answer, Reason};
 use session::{Session, respond_to};
+use std::io;
 use std::io::{BufRead, BufReader, BufWriter, Write};
 
 // The line without its line feed.
@@ -15,12 +16,17 @@ fn content(line: &[u8]) -> &[u8] {
     }
 }
 
+// Writes answers out, one to a line.
+fn write_answers(output: &mut impl Write, answers: &[Answer]) -> io::Result<()> {
+    for answer in answers {
+        writeln!(output, "{answer}")?;
+    }
+    output.flush()
+}
+
 fn main(rt: HostRuntime) -> anyhow::Result<()> {
     let heap = rt.alloc();
-    let mut session = match Session::new(heap) {
-        Ok(session) => session,
-        Err(_) => return Err(anyhow!("out of memory")),
-    };
+    let mut session = Session::new(heap).map_err(|_| anyhow!("out of memory"))?;
     let mut input = BufReader::new(heap, rt.stdin())?;
     let mut output = BufWriter::new(heap, rt.stdout())?;
     let mut line = Vec::new(heap);
@@ -30,20 +36,18 @@ fn main(rt: HostRuntime) -> anyhow::Result<()> {
             break;
         }
         match respond_to(heap, &mut session, number, content(&line)) {
-            Ok(answers) => {
-                for answer in answers.iter() {
-                    writeln!(output, "{answer}")?;
-                }
-            }
+            Ok(answers) => write_answers(&mut output, &answers)?,
             Err(_) => {
-                let answer = Answer::Error {
-                    line: number,
-                    reason: Reason::NoMemory,
-                };
-                writeln!(output, "{answer}")?;
+                let reason = Reason::NoMemory;
+                write_answers(
+                    &mut output,
+                    &[Answer::Error {
+                        line: number,
+                        reason,
+                    }],
+                )?;
             }
         }
-        output.flush()?;
     }
     Ok(())
 }

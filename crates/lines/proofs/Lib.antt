@@ -3,4 +3,3 @@ mod Numbering
 mod Hexing
 mod Placing
 mod Ruling
-mod Requesting

@@ -1,54 +1,40 @@
--- A number read digit by digit, kept at or below a cap that no accepted number reaches.
-use Rattle.std.proofs.Common.{◌≡◌, ℕ, ◌+◌, ◌<◌, ◌≤◌, min, true, false, List, [], ◌∷◌, length, get_or, drop, Some, None, fold, sym, refl, ap, ◌∙◌, arith}
-use Rattle.std.proofs.lemmas.List.{drop_more, drop_all}
+-- A number read digit by digit, up to the first byte that is no digit or makes it too great.
+use Rattle.std.proofs.Common.{◌≡◌, ℕ, ◌<◌, ◌≤◌, true, false, cond, ◌&&◌, ◌⊎◌, List, [], ◌∷◌, length, Some, None, fold, Option, nat_le, ap, ◌∙◌, inl, inr, arith}
+use Rattle.std.proofs.lemmas.Bool.{cases_Bool}
 use Rattle.std.proofs.lemmas.Bool.Decides.{nat_tests}
-use Rattle.lines.specs.Numbers.{digit, digits, grown, value, numeral}
+use Rattle.lines.specs.Numbers.{digit, digits, grown, longer, numeral}
 
--- capping the number read so far does not change what is read, capped
-pub capped : (top a : ℕ) (xs : List ℕ) → min (fold grown (min a top) xs) top ≡ min (fold grown a xs) top
-capped top a [] = omega arith
-capped top a (b ∷ xs) =
-    let e : min (grown (min a top) b) top ≡ min (grown a b) top = omega arith in
-    sym (capped top (grown (min a top) b) xs) ∙ ap (λ n. min (fold grown n xs) top) e ∙ capped top (grown a b) xs
+-- the digits xs behind a number, if there is one
+abbrev pub read : ℕ → Option ℕ → List ℕ → Option ℕ
+read most None xs = None
+read most (Some n) [] = Some n
+read most (Some n) (b ∷ xs) = read most (longer most n b) xs
 
--- what is read of the word xs with n read at the index i
-pub record Read (top : ℕ) (xs : List ℕ) (i n : ℕ) : Type 0 where
-  pub all : digits (drop i xs) ≡ digits xs
-  pub number : min (fold grown n (drop i xs)) top ≡ min (value xs) top
-  pub small : n ≤ top
+grows : (xs : List ℕ) (n : ℕ) → n ≤ fold grown n xs
+grows [] n = omega arith
+grows (b ∷ xs) n = let h = grows xs (grown n b) in omega (arith, h)
 
-pub read_none : (top : ℕ) (xs : List ℕ) → Read top xs 0 0
-read_none top xs = record { all = refl; number = refl; small = omega arith }
+abbrev Reads : ℕ → ℕ → List ℕ → Type 0
+Reads most n xs = read most (Some n) xs ≡ cond (digits xs && nat_le (fold grown n xs) most) (Some (fold grown n xs)) None
 
-pub read_more : (top : ℕ) (xs : List ℕ) (i n m : ℕ) → i < length xs → digit (get_or xs i 0) ≡ true → Read top xs i n → m ≡ min (grown n (get_or xs i 0)) top → Read top xs (i + 1) m
-read_more top xs i n m h d r e =
-    let w = drop_more xs i 0 h in
-    let all : digits (get_or xs i 0 ∷ drop (i + 1) xs) ≡ digits xs = rw w at r.all in
-    let number : min (fold grown (grown n (get_or xs i 0)) (drop (i + 1) xs)) top ≡ min (value xs) top = rw w at r.number in
-    record {
-      all = rw d at all;
-      number = rw e (capped top (grown n (get_or xs i 0)) (drop (i + 1) xs) ∙ number);
-      small = omega arith;
-    }
+reads : (most n : ℕ) (xs : List ℕ) → n ≤ most → Reads most n xs
+reads most n [] h = grind (arith, nat_tests)
+reads most n (b ∷ xs) h = go (cases_Bool (digit b)) (cases_Bool (nat_le (grown n b) most)) (reads most (grown n b) xs)
+  where
+    go : (digit b ≡ true) ⊎ (digit b ≡ false) → (nat_le (grown n b) most ≡ true) ⊎ (nat_le (grown n b) most ≡ false) → (grown n b ≤ most → Reads most (grown n b) xs) → Reads most n (b ∷ xs)
+    go (inl d) (inl s) ih =
+        let step : longer most n b ≡ Some (grown n b) = grind (arith, nat_tests) in
+        let all : digits xs ≡ (digit b && digits xs) = grind (arith, nat_tests) in
+        ap (λ (o : Option ℕ). read most o xs) step ∙ ih (grind (arith, nat_tests)) ∙ ap (λ t. cond (t && nat_le (fold grown (grown n b) xs) most) (Some (fold grown (grown n b) xs)) None) all
+    go (inl d) (inr s) ih =
+        let more = grows xs (grown n b) in
+        let step : longer most n b ≡ None = grind (arith, nat_tests) in
+        let far : nat_le (fold grown (grown n b) xs) most ≡ false = grind (arith, nat_tests) in
+        ap (λ (o : Option ℕ). read most o xs) step ∙ grind (arith, nat_tests)
+    go (inr d) s ih =
+        let step : longer most n b ≡ None = grind (arith, nat_tests) in
+        let all : digits (b ∷ xs) ≡ false = grind (arith, nat_tests) in
+        ap (λ (o : Option ℕ). read most o xs) step ∙ grind (arith, nat_tests)
 
-pub read_stray : (top most : ℕ) (xs : List ℕ) (i n : ℕ) → i < length xs → digit (get_or xs i 0) ≡ false → Read top xs i n → None ≡ numeral most xs
-read_stray top most xs i n h d r =
-    let w = drop_more xs i 0 h in
-    let all : digits (get_or xs i 0 ∷ drop (i + 1) xs) ≡ digits xs = rw w at r.all in
-    let no : false ≡ digits xs = rw d at all in
-    grind (arith, nat_tests)
-
-pub read_all : (top most : ℕ) (xs : List ℕ) (i n : ℕ) → 0 < length xs → length xs ≤ i → most < top → n ≤ most → Read top xs i n → Some n ≡ numeral most xs
-read_all top most xs i n some h m k r =
-    let w = drop_all i xs h in
-    let all : true ≡ digits xs = rw w at r.all in
-    let number : min n top ≡ min (value xs) top = rw w at r.number in
-    let is : n ≡ value xs = omega arith in
-    rw (← all, is) (grind (arith, nat_tests))
-
-pub read_more_than : (top most : ℕ) (xs : List ℕ) (i n : ℕ) → length xs ≤ i → most < top → most < n → Read top xs i n → None ≡ numeral most xs
-read_more_than top most xs i n h m k r =
-    let w = drop_all i xs h in
-    let number : min n top ≡ min (value xs) top = rw w at r.number in
-    let is : most < value xs = omega arith in
-    grind (arith, nat_tests)
+pub read_none : (most : ℕ) (xs : List ℕ) → 0 < length xs → read most (Some 0) xs ≡ numeral most xs
+read_none most xs h = reads most 0 xs (omega arith) ∙ grind (arith, nat_tests)

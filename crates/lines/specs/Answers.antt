@@ -11,9 +11,13 @@ use Rattle.lines.specs.declared.answer.Answer.TheVariants.{Loaded, Refused, Cut,
 abbrev pub spaced : ℕ → List ℕ
 spaced n = codes " " ++ decimal n
 
+-- a reason, alone and behind a space
+abbrev pub said : Reason → List ℕ
+said NotUnderstood = codes "invalid"
+said NoMemory = codes "out of memory"
+
 abbrev pub why : Reason → List ℕ
-why NotUnderstood = codes " invalid"
-why NoMemory = codes " out of memory"
+why r = codes " " ++ said r
 
 abbrev pub text : Answer → List ℕ
 text (Loaded literals rules) = codes "loaded" ++ (spaced literals ++ spaced rules)

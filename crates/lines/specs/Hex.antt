@@ -33,7 +33,8 @@ bytes [] = Some []
 bytes (a ∷ []) = None
 bytes (a ∷ b ∷ xs) = behind (pair a b) (bytes xs)
 
-abbrev pub Unhexed : List ℕ → Result (Option (Vec ℕ Global)) AllocError → Type 0
-Unhexed word (Ok None) = bytes word ≡ None
-Unhexed word (Ok (Some v)) = bytes word ≡ Some (vec_items v)
-Unhexed word (Err e) = Unit {0}
+-- the answer of reading bytes: these bytes, or none where there are none, unless there is no memory for them
+abbrev pub HexAnswers : Option (List ℕ) → Result (Option (Vec ℕ Global)) AllocError → Type 0
+HexAnswers a (Ok None) = a ≡ None
+HexAnswers a (Ok (Some v)) = a ≡ Some (vec_items v)
+HexAnswers a (Err e) = Unit {0}

@@ -12,6 +12,10 @@ digits (b ∷ xs) = digit b && digits xs
 abbrev pub grown : ℕ → ℕ → ℕ
 grown n b = n * 10 + (b - 48)
 
+-- the same, where the byte is a digit and the number is at most `most`
+abbrev pub longer : ℕ → ℕ → ℕ → Option ℕ
+longer most n b = cond (digit b && nat_le (grown n b) most) (Some (grown n b)) None
+
 abbrev pub value : List ℕ → ℕ
 value xs = fold grown 0 xs
 

@@ -1,6 +1,6 @@
 -- What a line asks for.
-use Rattle.std.specs.Prelude.{◌≡◌, ℕ, ◌-◌, cond, List, [], ◌∷◌, length, take, Some, None, Ok, Err, vec_items, Option, Result, Vec, ◌==◌, slice_index}
-use Rattle.std.specs.declared.alloc.Global.{Global}
+use Rattle.std.specs.Prelude.{◌≡◌, ℕ, ◌-◌, cond, List, [], ◌∷◌, length, take, Some, None, Ok, Err, vec_items, Option, Result, ◌==◌, slice_index}
+use Rattle.std.specs.declared.alloc.AllocError.{AllocError}
 use Rattle.rows.specs.declared.row.LiteralRow.{LiteralRow}
 use Rattle.rows.specs.declared.row.PlaceRow.{PlaceRow}
 use Rattle.rows.specs.declared.row.RuleRow.{RuleRow}
@@ -8,14 +8,11 @@ use Rattle.lines.specs.declared.verb.Verb.{Verb}
 use Rattle.lines.specs.declared.verb.Verb.TheVariants as verb
 use Rattle.lines.specs.declared.request.Request.{Request}
 use Rattle.lines.specs.declared.request.Request.TheVariants as request
-use Rattle.lines.specs.declared.request.Unread.{Unread}
-use Rattle.lines.specs.declared.request.Unread.TheVariants.{NotUnderstood, NoMemory}
-use Rattle.lines.specs.declared.request.Lone.{Lone}
-use Rattle.lines.specs.declared.request.Lone.TheVariants.{Nothing, One, Many}
 use Rattle.lines.specs.Words.{words}
 use Rattle.lines.specs.Numbers.{numeral}
 use Rattle.lines.specs.Hex.{bytes}
-use Rattle.lines.specs.Rows.{literal_row, no_places, placed, place_at}
+use Rattle.rows.specs.Rows.{no_places, placed}
+use Rattle.lines.specs.Rows.{literal_row, place_at}
 use Rattle.lines.specs.Verbs.{verb_at}
 
 -- what a line may ask for, with the contents of what it holds
@@ -114,20 +111,9 @@ by_words (w ∷ ws) = cond (slice_index w 0 == 35) (Some blank) (by_verb (verb_a
 abbrev pub read : List ℕ → Option Asks
 read line = by_words (words (unended line))
 
--- the answer of reading: the request means what the line asks for, or it asks for nothing that is understood
-abbrev pub Answers : Option Asks → Result Request Unread → Type 0
-Answers a (Ok r) = a ≡ Some (meaning r)
-Answers a (Err NotUnderstood) = a ≡ None
-Answers a (Err NoMemory) = Unit {0}
-
--- the same of bytes and of a rule row
-abbrev pub HexAnswers : Option (List ℕ) → Result (Vec ℕ Global) Unread → Type 0
-HexAnswers a (Ok v) = a ≡ Some (vec_items v)
-HexAnswers a (Err NotUnderstood) = a ≡ None
-HexAnswers a (Err NoMemory) = Unit {0}
-
--- whether words are left: none, one, or more
-abbrev pub LoneIs : List (List ℕ) → Lone → Type 0
-LoneIs ws Nothing = ws ≡ []
-LoneIs ws (One w) = ws ≡ w.now ∷ []
-LoneIs ws Many = (w v : List ℕ) × (rest : List (List ℕ)) × (ws ≡ w ∷ v ∷ rest)
+-- the answer of reading: the request means what the line asks for, or it asks for nothing that is understood, unless
+-- there is no memory for the request
+abbrev pub Answers : Option Asks → Result (Option Request) AllocError → Type 0
+Answers a (Ok None) = a ≡ None
+Answers a (Ok (Some r)) = a ≡ Some (meaning r)
+Answers a (Err e) = Unit {0}

@@ -1,8 +1,7 @@
 -- Rows in a line: a literal's spelling as its bytes, and the places of a rule.
-use Rattle.std.specs.Prelude.{ℕ, ◌+◌, ◌≤◌, min, Bool, cond, ◌&&◌, List, length, drop, replicate, Some, None, fold, Option, ◌==◌, nat_le, nat_lt, slice_index, slice_set}
+use Rattle.std.specs.Prelude.{ℕ, ◌+◌, min, Bool, cond, ◌&&◌, List, length, drop, replicate, Some, None, fold, Option, ◌==◌, nat_le, nat_lt, slice_index, slice_set}
 use Rattle.rows.specs.declared.row.LiteralRow.{LiteralRow}
 use Rattle.rows.specs.declared.row.PlaceRow.{PlaceRow}
-use Rattle.rows.specs.declared.row.RuleRow.{RuleRow}
 use Rattle.lines.specs.Numbers.{numeral}
 use Rattle.lines.specs.Hex.{pair}
 
@@ -16,24 +15,9 @@ spelled row b = record { length = min (row.length + 1) 255; bytes = cond (nat_lt
 abbrev pub literal_row : List ℕ → LiteralRow
 literal_row bytes = fold spelled no_spelling bytes
 
-abbrev pub no_place : PlaceRow
-no_place = record { relation = 0; symbol = 0 }
-
-abbrev pub no_places : ℕ → ℕ → RuleRow
-no_places left cost = record { left = left; cost = cost; count = 0; places = replicate 6 no_place }
-
--- a rule with one place more: six are stored, and up to 255 are counted
-abbrev pub placed : RuleRow → PlaceRow → RuleRow
-placed row p = record { left = row.left; cost = row.cost; count = min (row.count + 1) 255; places = cond (nat_lt row.count 6) (slice_set row.places row.count p) row.places }
-
 -- the word begins with the two bytes \x
 abbrev pub escaped : List ℕ → Bool
 escaped w = nat_le 2 (length w) && (slice_index w 0 == 92 && slice_index w 1 == 120)
-
--- a number that fits a symbol
-abbrev pub Small : Option ℕ → Type 0
-Small None = Unit {0}
-Small (Some n) = n ≤ 65535
 
 abbrev pub of_symbol : ℕ → Option ℕ → Option PlaceRow
 of_symbol relation None = None

@@ -1,15 +1,26 @@
 // An answer written as a line.
 ghost use Rattle.std.specs.Prelude.{◌≡◌, Some};
-ghost use Rattle.lines.specs.Answers.{text};
+ghost use Rattle.lines.specs.Answers.{said, text};
 
 use std::fmt;
 use tokens::{Refusal, Token};
 
 // Why a line is answered by an error.
-#[derive(Clone, Copy)]
+#[derive(Clone, Copy, Debug, PartialEq, Eq)]
 pub enum Reason {
     NotUnderstood,
     NoMemory,
+}
+
+impl fmt::Display for Reason {
+    ghost output = { λ r. Some (said r) };
+
+    fn fmt<W: fmt::Write>(&self, f: &mut fmt::Formatter<W>) -> fmt::Result {
+        match self {
+            Reason::NotUnderstood => write!(f, "invalid"),
+            Reason::NoMemory => write!(f, "out of memory"),
+        }
+    }
 }
 
 // One line of an answer.
@@ -43,25 +54,21 @@ impl fmt::Display for Answer {
         match *self {
             Answer::Loaded { literals, rules } => write!(f, "loaded {literals} {rules}"),
             Answer::Refused { number, place } => write!(f, "refused {number} {place}"),
-            Answer::Cut(token) => {
-                let Token {
+            Answer::Cut(
+                Token {
                     kind,
                     column,
                     place,
                     length,
-                } = token;
-                write!(f, "token {kind} {column} {place} {length}")
-            }
+                },
+            ) => write!(f, "token {kind} {column} {place} {length}"),
             Answer::End => write!(f, "end"),
             Answer::Fault {
                 number,
                 place,
                 source,
             } => write!(f, "fault {number} {place} {source}"),
-            Answer::Error { line, reason } => match reason {
-                Reason::NotUnderstood => write!(f, "error {line} invalid"),
-                Reason::NoMemory => write!(f, "error {line} out of memory"),
-            },
+            Answer::Error { line, reason } => write!(f, "error {line} {reason}"),
         }
     }
 }

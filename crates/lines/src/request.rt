@@ -1,18 +1,19 @@
 // A line read as a request.
-ghost use Rattle.std.specs.Prelude.{◌≡◌, ℕ, ◌≤◌, length, drop, Some, slice_index};
+ghost use Rattle.std.specs.Prelude.{◌≡◌, Some, option_map};
 ghost use Rattle.lines.specs.Words.{words};
-ghost use Rattle.lines.specs.Requests.{hex_words, start_words, plain_words, rule_row, with_places, as_literal, as_script, as_start, as_rule, by_verb, meaning, read, Answers, HexAnswers, LoneIs};
+ghost use Rattle.lines.specs.Hex.{HexAnswers};
+ghost use Rattle.lines.specs.Requests.{hex_words, start_words, plain_words, rule_row, with_places, as_start, by_verb, meaning, read, Answers};
 
 use super::hex::unhex;
-use super::number::number;
-use super::row::{bare_rule, literal_row, place, with_place};
+use super::number::{number, symbol};
+use super::row::{literal_row, place};
 use super::verb::{Verb, verb_of};
-use super::words::next_word;
+use super::words::Words;
 use rows::{LiteralRow, RuleRow};
-use std::alloc::Global;
+use std::alloc::{AllocError, Global};
 
 // What a line asks for; a blank line and a comment ask for nothing.
-#[derive(Drop)]
+#[derive(Debug, PartialEq, Eq, Drop)]
 pub enum Request {
     Blank,
     Literal(LiteralRow),
@@ -23,165 +24,91 @@ pub enum Request {
     Tokens,
 }
 
-// Why a line was not read.
-#[derive(Clone, Copy)]
-pub enum Unread {
-    NotUnderstood,
-    NoMemory,
-}
-
-// The words that are left: none, one, or more.
-#[derive(Clone, Copy)]
-enum Lone<'a> {
-    Nothing,
-    One(&'a [u8]),
-    Many,
-}
-
-fn lone_word<'a>(text: &'a [u8], at: usize) -> Lone<'a>
-    requires { at ≤ length text.now }
-    ensures { LoneIs (words (drop at text.now)) result }
+// The bytes that the only word left is the hexadecimal digits of; no word stands for no bytes.
+fn hex_words(heap: Global, mut words: Words<'_>) -> Result<Option<Vec<u8>>, AllocError>
+    ensures { HexAnswers (hex_words words.entry) result }
 {
-    match next_word(text, at) {
-        None => Lone::Nothing,
-        Some((word, end)) => match next_word(text, end) {
-            None => Lone::One(word),
-            Some(_) => Lone::Many,
-        },
+    let word = words.next().unwrap_or(&[]);
+    if words.next().is_some() {
+        return Ok(None);
     }
-}
-
-// The bytes that the words left are the hexadecimal digits of.
-fn hex_words(heap: Global, text: &[u8], at: usize) -> Result<Vec<u8>, Unread>
-    requires { at ≤ length text.now }
-    ensures { HexAnswers (hex_words (words (drop at text.now))) result }
-{
-    match lone_word(text, at) {
-        Lone::Nothing => Ok(Vec::new(heap)),
-        Lone::One(word) => match unhex(heap, word) {
-            Ok(Some(bytes)) => Ok(bytes),
-            Ok(None) => Err(Unread::NotUnderstood),
-            Err(_) => Err(Unread::NoMemory),
-        },
-        Lone::Many => Err(Unread::NotUnderstood),
-    }
+    unhex(heap, word)
 }
 
 // The symbol that the only word left is.
-fn start_words(text: &[u8], at: usize) -> Option<u16>
-    requires { at ≤ length text.now }
-    ensures { as_start result ≡ start_words (words (drop at text.now)) }
+fn start_words(mut words: Words<'_>) -> Option<u16>
+    ensures { as_start result ≡ start_words words.entry }
 {
-    match lone_word(text, at) {
-        Lone::One(word) => match number(word, 65_535) {
-            Some(n) => Some(n as u16),
-            None => None,
-        },
-        _ => None,
-    }
+    let symbol = symbol(words.next()?)?;
+    words.next().is_none().then_some(symbol)
 }
 
 // The rule with the places that the words left are.
-fn with_places(bare: RuleRow, text: &[u8], from: usize) -> Option<RuleRow>
-    requires { from ≤ length text.now }
-    ensures { result ≡ with_places (Some bare) (words (drop from text.now)) }
+#[tactic(auto, using(crate::proofs::Ruling::unplaced))]
+fn with_places(bare: RuleRow, words: Words<'_>) -> Option<RuleRow>
+    ensures { result ≡ with_places (Some bare) words.entry }
 {
     let mut row = bare;
-    let mut at = from;
-    while let Some((word, end)) = next_word(text, at) {
-        match place(word) {
-            Some(p) => row = with_place(row, p),
-            None => return None,
-        }
-        at = end;
+    for word in words {
+        row = row.with_place(place(word)?);
     }
     Some(row)
 }
 
 // The rule that the words left are.
-fn rule_words(text: &[u8], at: usize) -> Option<RuleRow>
-    requires { at ≤ length text.now }
-    ensures { result ≡ rule_row (words (drop at text.now)) }
+#[tactic(auto, using(crate::proofs::Ruling::unplaced))]
+fn rule_words(mut words: Words<'_>) -> Option<RuleRow>
+    ensures { result ≡ rule_row words.entry }
 {
-    let (left, behind) = next_word(text, at)?;
-    let (cost, end) = next_word(text, behind)?;
-    let left = number(left, 65_535)?;
-    let cost = number(cost, 4_294_967_295)?;
-    with_places(bare_rule(left as u16, cost), text, end)
+    let left = symbol(words.next()?)?;
+    let cost = number(words.next()?)?;
+    with_places(RuleRow::new(left, cost), words)
 }
 
 // A request without arguments, where no word is left.
-fn plain(request: Request, text: &[u8], at: usize) -> Result<Request, Unread>
-    requires { at ≤ length text.now }
-    ensures { Answers (plain_words (meaning request) (words (drop at text.now))) result }
+fn plain(request: Request, mut words: Words<'_>) -> Option<Request>
+    ensures { plain_words (meaning request) words.entry ≡ option_map meaning result }
 {
-    match lone_word(text, at) {
-        Lone::Nothing => Ok(request),
-        _ => Err(Unread::NotUnderstood),
-    }
-}
-
-// The byte at an index, and 0 behind the end.
-fn byte_at(bytes: &[u8], i: usize) -> u8
-    ensures { result ≡ slice_index bytes.now i }
-{
-    if i < bytes.len() { bytes[i] } else { 0 }
+    words.next().is_none().then_some(request)
 }
 
 // The line without a carriage return at its end.
-fn unended<'a>(line: &'a [u8]) -> &'a [u8]
+fn unended(line: &[u8]) -> &[u8]
     ensures { result.now ≡ Rattle.lines.specs.Requests.unended line.now }
 {
-    let last = line.len().saturating_sub(1);
-    if byte_at(line, last) == b'\r' {
-        &line[0..last]
-    } else {
-        line
+    match line {
+        [front @ .., b'\r'] => front,
+        _ => line,
     }
 }
 
 // The request of a command with the words left.
-fn by_verb(heap: Global, verb: Verb, text: &[u8], at: usize) -> Result<Request, Unread>
-    requires { at ≤ length text.now }
-    ensures { Answers (by_verb (Some verb) (words (drop at text.now))) result }
+fn by_verb(heap: Global, verb: Verb, words: Words<'_>) -> Result<Option<Request>, AllocError>
+    ensures { Answers (by_verb (Some verb) words.entry) result }
 {
     match verb {
         Verb::Literal => {
-            let bytes = hex_words(heap, text, at)?;
-            Ok(Request::Literal(literal_row(bytes.as_slice())))
+            let spelling = hex_words(heap, words)?;
+            Ok(spelling.map(|bytes| Request::Literal(literal_row(&bytes))))
         }
-        Verb::Rule => match rule_words(text, at) {
-            Some(row) => Ok(Request::Rule(row)),
-            None => Err(Unread::NotUnderstood),
-        },
-        Verb::Start => match start_words(text, at) {
-            Some(symbol) => Ok(Request::Start(symbol)),
-            None => Err(Unread::NotUnderstood),
-        },
-        Verb::Load => plain(Request::Load, text, at),
-        Verb::Script => {
-            let bytes = hex_words(heap, text, at)?;
-            Ok(Request::Script(bytes))
-        }
-        Verb::Tokens => plain(Request::Tokens, text, at),
+        Verb::Rule => Ok(rule_words(words).map(Request::Rule)),
+        Verb::Start => Ok(start_words(words).map(Request::Start)),
+        Verb::Load => Ok(plain(Request::Load, words)),
+        Verb::Script => Ok(hex_words(heap, words)?.map(Request::Script)),
+        Verb::Tokens => Ok(plain(Request::Tokens, words)),
     }
 }
 
-// What a line, without its line feed, asks for.
-pub fn read_request(heap: Global, line: &[u8]) -> Result<Request, Unread>
+// What a line, without its line feed, asks for, where it is understood.
+pub fn read_request(heap: Global, line: &[u8]) -> Result<Option<Request>, AllocError>
     ensures { Answers (read line.now) result }
 {
-    let text = unended(line);
-    match next_word(text, 0) {
-        None => Ok(Request::Blank),
-        Some((word, at)) => {
-            if byte_at(word, 0) == b'#' {
-                return Ok(Request::Blank);
-            }
-            match verb_of(word) {
-                Some(verb) => by_verb(heap, verb, text, at),
-                None => Err(Unread::NotUnderstood),
-            }
-        }
+    let mut words = Words::of(unended(line));
+    match words.next() {
+        None | Some([b'#', ..]) => Ok(Some(Request::Blank)),
+        Some(word) => match verb_of(word) {
+            Some(verb) => by_verb(heap, verb, words),
+            None => Ok(None),
+        },
     }
 }

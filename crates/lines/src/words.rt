@@ -1,39 +1,53 @@
 // The words of a line: the longest runs of bytes that are no space or tab.
-ghost use Rattle.std.specs.Prelude.{◌≡◌, ℕ, ◌+◌, ◌<◌, ◌≤◌, length, drop};
-ghost use Rattle.std.specs.List.{prefix_len};
-ghost use Rattle.lines.specs.Words.{blank, like, NextWord};
+ghost use Rattle.std.specs.Prelude.{◌≡◌};
+ghost use Rattle.std.specs.Iterator.{YieldsFirstRef, item_count};
+ghost use Rattle.lines.specs.Words.{blank, words};
+
+use std::marker::Model;
 
 fn is_blank(b: u8) -> bool
     ensures { result ≡ blank b }
 {
-    b == b' ' || b == b'\t'
+    matches!(b, b' ' | b'\t')
 }
 
-// The offset behind the longest run, from an offset on, of bytes that are all blank, or all not blank.
-fn run_end(line: &[u8], from: usize, blanks: bool) -> usize
-    requires { from ≤ length line.now }
-    ensures end { result ≡ from + prefix_len (like blanks) (drop from line.now) }
-    ensures within { result ≤ length line.now }
-{
-    let mut at = from;
-    while at < line.len() {
-        if is_blank(line[at]) != blanks {
-            return at;
-        }
-        at += 1;
-    }
-    at
+// What is left of a line: an iterator over its words.
+#[derive(Drop)]
+pub(crate) struct Words<'a> {
+    rest: &'a [u8],
 }
 
-// The first word from an offset on, with the offset behind it.
-pub(crate) fn next_word<'a>(line: &'a [u8], from: usize) -> Option<(&'a [u8], usize)>
-    requires { from ≤ length line.now }
-    ensures { NextWord line.now from result }
-{
-    let start = run_end(line, from, true);
-    let end = run_end(line, start, false);
-    if start == end {
-        return None;
+impl<'a> Model for Words<'a> {
+    ghost use Rattle.std.specs.Prelude.{ℕ, List};
+    ghost use Rattle.lines.specs.Words.{words};
+
+    ghost Value = { List (List ℕ) };
+
+    ghost view = { λ w. words w.rest.now };
+}
+
+impl<'a> Words<'a> {
+    // The words of a line.
+    pub(crate) fn of(line: &'a [u8]) -> Words<'a>
+        ensures { result ≡ words line.now }
+    {
+        Words { rest: line }
     }
-    Some((&line[start..end], end))
+}
+
+impl<'a> Iterator for Words<'a> {
+    type Item = &'a [u8];
+
+    ghost next_gives = { YieldsFirstRef (λ ws. ws) };
+
+    ghost remaining = { item_count (λ ws. ws) };
+
+    fn next(&mut self) -> Option<&'a [u8]> {
+        let start = self.rest.iter().position(|b| !is_blank(*b))?;
+        let text = &self.rest[start..];
+        let end = text.iter().position(|b| is_blank(*b)).unwrap_or(text.len());
+        let (word, rest) = text.split_at(end);
+        self.rest = rest;
+        Some(word)
+    }
 }

@@ -1,5 +1,5 @@
 -- What each line does to a session, and what it answers.
-use Rattle.std.specs.Prelude.{◌≡◌, ℕ, List, [], ◌∷◌, ◌++◌, map, length, Some, None, Ok, Err, vec_items, Option, Result, Vec}
+use Rattle.std.specs.Prelude.{◌≡◌, ℕ, List, [], ◌∷◌, ◌++◌, map, length, Some, None, Ok, Err, IfOk, vec_items, Option, Result, Vec}
 use Rattle.std.specs.declared.alloc.Global.{Global}
 use Rattle.std.specs.declared.alloc.AllocError.{AllocError}
 use Rattle.tokens.specs.declared.token.Token.{Token}
@@ -47,10 +47,6 @@ pub record Collected (was now : Session) (ls : List LiteralRow) (rs : List RuleR
   pub rules : rules_in now ≡ rules_in was ++ rs
   pub start : now.start ≡ was.start
   pub script : now.script ≡ was.script
-
-abbrev pub Adds : Session → Session → List LiteralRow → List RuleRow → Result (Unit {0}) AllocError → Type 0
-Adds was now ls rs (Ok u) = Collected was now ls rs
-Adds was now ls rs (Err e) = Collected was now [] []
 
 -- what was collected is forgotten; the script stays
 pub record Forgets (was now : Session) : Type 0 where
@@ -118,15 +114,16 @@ abbrev pub Responds : Session → Session → ℕ → Option request.Asks → Re
 Responds was now n asks (Ok v) = Step was now n asks (vec_items v)
 Responds was now n asks (Err e) = Unit {0}
 
+-- where there is no memory for a row, nothing is collected
+abbrev pub Lacks : Session → Session → request.Asks → Type 0
+Lacks was now (request.literal row) = Collected was now [] []
+Lacks was now (request.rule row) = Collected was now [] []
+Lacks was now asks = Unit {0}
+
 -- the same of a request that was read; the line's number plays no part then
 abbrev pub Runs : Session → Session → request.Asks → Result (Vec Answer Global) AllocError → Type 0
 Runs was now asks (Ok v) = (n : ℕ) → Step was now n (Some asks) (vec_items v)
-Runs was now asks (Err e) = Unit {0}
-
-abbrev pub One : Answer → Result (Vec Answer Global) AllocError → Type 0
-One a (Ok v) = vec_items v ≡ a ∷ []
-One a (Err e) = Unit {0}
+Runs was now asks (Err e) = Lacks was now asks
 
 abbrev pub Cuts : List Token → Result (Vec Answer Global) AllocError → Type 0
-Cuts ts (Ok v) = vec_items v ≡ map answer.Cut ts
-Cuts ts (Err e) = Unit {0}
+Cuts ts r = IfOk r (λ v. vec_items v ≡ map answer.Cut ts)

@@ -1,38 +1,24 @@
-// Lines that collect or set, and the load of what was collected.
-ghost use Rattle.std.specs.Prelude.{◌≡◌, List, [], ◌∷◌, ◌++◌};
-ghost use Rattle.session.specs.Steps.{Adds, Loads};
+// The load of what was collected.
+ghost use Rattle.session.specs.Steps.{Loads};
 
 use super::state::Session;
 use lines::answer::Answer;
-use rows::{LiteralRow, RuleRow};
-use std::alloc::{AllocError, Global};
+use rows::DialectRows;
+use std::alloc::Global;
 
 impl Session {
-    // One literal row more.
-    pub(crate) fn add_literal(&mut self, row: LiteralRow) -> Result<(), AllocError>
-        ensures { Adds self.old self.new (row ∷ []) [] result }
-    {
-        self.literals.push(row)?;
-        Ok(())
-    }
-
-    // One rule row more.
-    pub(crate) fn add_rule(&mut self, row: RuleRow) -> Result<(), AllocError>
-        ensures { Adds self.old self.new [] (row ∷ []) result }
-    {
-        self.rules.push(row)?;
-        Ok(())
-    }
-
     // Loads what was collected, and forgets it.
     pub(crate) fn load(&mut self, heap: Global) -> Answer
         ensures { Loads self.old self.new result }
     {
         let literals = self.literals.len();
         let rules = self.rules.len();
-        let loaded = self
-            .dialect
-            .load(heap, &self.literals, &self.rules, self.start);
+        let rows = DialectRows {
+            literals: &self.literals,
+            rules: &self.rules,
+            start: self.start,
+        };
+        let loaded = self.dialect.load(heap, &rows);
         self.literals.clear();
         self.rules.clear();
         self.start = 0;

@@ -1,34 +1,20 @@
 // A line of the format, carried out and answered.
-ghost use Rattle.std.specs.Prelude.{◌≡◌, Some};
 ghost use Rattle.lines.specs.Requests.{meaning};
 ghost use Rattle.lines.specs.Requests as request;
-ghost use Rattle.session.specs.Steps.{Told, Responds};
+ghost use Rattle.session.specs.Steps.{Cuts, Told, Runs, Responds};
 
 use super::state::Session;
 use lines::answer::{Answer, Reason};
-use lines::request::{Request, Unread, read_request};
+use lines::request::{Request, read_request};
 use script::TextSource;
 use std::alloc::{AllocError, Global};
 use tokens::{Token, drain_source};
 
-// A list of one answer.
-fn one(heap: Global, answer: Answer) -> Result<Vec<Answer>, AllocError>
-    ensures { Rattle.session.specs.Steps.One answer result }
-{
-    let mut answers = Vec::new(heap);
-    answers.push(answer)?;
-    Ok(answers)
-}
-
 // An answer for each token.
 fn cuts(heap: Global, tokens: &[Token]) -> Result<Vec<Answer>, AllocError>
-    ensures { Rattle.session.specs.Steps.Cuts tokens.now result }
+    ensures { Cuts tokens.now result }
 {
-    let mut answers = Vec::new(heap);
-    for token in tokens {
-        answers.push(Answer::Cut(*token))?;
-    }
-    Ok(answers)
+    tokens.iter().map(|token| Answer::Cut(*token)).collect(heap)
 }
 
 impl Session {
@@ -39,23 +25,20 @@ impl Session {
         let mut source = TextSource::new(&self.script, &self.dialect);
         let drained = drain_source(heap, &mut source)?;
         let mut answers = cuts(heap, &drained.tokens)?;
-        match drained.fault {
-            None => answers.push(Answer::End)?,
-            Some(fault) => answers.push(Answer::fault(fault))?,
-        }
+        answers.push(drained.fault.map_or(Answer::End, Answer::fault))?;
         Ok(answers)
     }
 
     // Carries out what a line asks for.
     fn run(&mut self, heap: Global, request: Request) -> Result<Vec<Answer>, AllocError>
-        ensures { Rattle.session.specs.Steps.Runs self.old self.new (meaning request) result }
+        ensures { Runs self.old self.new (meaning request) result }
     {
         match request {
             Request::Blank => {}
-            Request::Literal(row) => self.add_literal(row)?,
-            Request::Rule(row) => self.add_rule(row)?,
+            Request::Literal(row) => self.literals.push(row)?,
+            Request::Rule(row) => self.rules.push(row)?,
             Request::Start(symbol) => self.start = symbol,
-            Request::Load => return one(heap, self.load(heap)),
+            Request::Load => return Ok(vec![in heap; self.load(heap)]?),
             Request::Script(bytes) => self.script = bytes,
             Request::Tokens => return self.tell_tokens(heap),
         }
@@ -64,6 +47,7 @@ impl Session {
 }
 
 // What a line, without its line feed, does to the session and answers; `number` is the line's number.
+#[tactic(auto, using(crate::proofs::Responding::responds))]
 pub fn respond_to(
     heap: Global,
     session: &mut Session,
@@ -72,15 +56,13 @@ pub fn respond_to(
 ) -> Result<Vec<Answer>, AllocError>
     ensures { Responds session.old session.new number (request.read line.now) result }
 {
-    match read_request(heap, line) {
-        Ok(request) => session.run(heap, request),
-        Err(Unread::NotUnderstood) => one(
-            heap,
+    match read_request(heap, line)? {
+        Some(request) => session.run(heap, request),
+        None => Ok(vec![in heap;
             Answer::Error {
                 line: number,
                 reason: Reason::NotUnderstood,
             },
-        ),
-        Err(Unread::NoMemory) => Err(AllocError),
+        ]?),
     }
 }

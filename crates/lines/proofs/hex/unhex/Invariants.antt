@@ -1,9 +1,10 @@
-use Rattle.std.proofs.Common.{◌-◌, length, vec_items}
-use Rattle.lines.proofs.Hexing.{Read}
+use Rattle.std.proofs.Common.{◌≡◌, length, vec_items}
+use Rattle.lines.specs.Hex.{bytes}
+use Rattle.lines.proofs.Hexing.{ahead}
 use Rattle.lines.proofs.hex.unhex.Given as goal
 
-abbrev pub invariant-loop-at : goal.invariant-loop-at
-invariant-loop-at l = Read l.word l.at (vec_items l.out)
+abbrev pub invariant-loop-digits : goal.invariant-loop-digits
+invariant-loop-digits l = ahead (vec_items l.bytes) (bytes l.digits) ≡ bytes l.word
 
-abbrev pub decreases-loop-at : goal.decreases-loop-at
-decreases-loop-at l = length l.word - l.at
+abbrev pub decreases-loop-digits : goal.decreases-loop-digits
+decreases-loop-digits l = length l.digits

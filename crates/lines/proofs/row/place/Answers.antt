@@ -1,9 +1,13 @@
-use Rattle.std.proofs.Common.{sym}
-use Rattle.lines.proofs.Placing.{by_byte, by_digits}
+use Rattle.std.proofs.Common.{inl, inr, arith}
+use Rattle.std.proofs.lemmas.Bool.Decides.{nat_tests}
+use Rattle.lines.proofs.Placing.{by_byte}
 use Rattle.lines.proofs.row.place.Goals as goal
+use Rattle.lines.proofs.row.place.Goals.{then-word-lt4, else-word-lt4+in-92+in_default-1, else-word-lt4+in_default-1}
 
-pub returns-in-Some : goal.returns-in-Some
-returns-in-Some c = by_digits c.args.word.now _ c.in-Some.relation c.number.result (sym c.if-is_escaped.ensures) c.in-Some.ensures c.number.ensures c.of_symbol.ensures
-
-pub returns : goal.returns
-returns c = by_byte c.args.word.now _ c.number-2.result (sym c.if-is_escaped.ensures) c.number-2.ensures c.of_symbol-2.ensures
+pub returns-in-len1-up : goal.returns-in-len1-up
+returns-in-len1-up c =
+    elim c.in-len1-up-1.branch [
+      | then-word-lt4 w ↦ by_byte c.args.word.now _ (inr (grind (arith, nat_tests))) c.with_symbol-in-len1-up.ensures
+      | else-word-lt4+in-92+in_default-1 w ↦ by_byte c.args.word.now _ (inl (grind (arith, nat_tests))) c.with_symbol-in-len1-up.ensures
+      | else-word-lt4+in_default-1 w ↦ by_byte c.args.word.now _ (inl (grind (arith, nat_tests))) c.with_symbol-in-len1-up.ensures
+    ]
