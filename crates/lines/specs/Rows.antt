@@ -2,16 +2,11 @@
 use Rattle.std.specs.Prelude.{ℕ, ◌+◌, min, Bool, cond, ◌&&◌, List, length, drop, replicate, Some, None, fold, Option, ◌==◌, nat_le, nat_lt, slice_index, slice_set}
 use Rattle.rows.specs.declared.row.LiteralRow.{LiteralRow}
 use Rattle.rows.specs.declared.row.PlaceRow.{PlaceRow}
+use Rattle.rows.specs.Rows.{no_spelling, spelled}
 use Rattle.lines.specs.Numbers.{numeral}
 use Rattle.lines.specs.Hex.{pair}
 
-abbrev pub no_spelling : LiteralRow
-no_spelling = record { length = 0; bytes = replicate 32 0 }
-
--- one byte more of a spelling: 32 are stored, and up to 255 are counted
-abbrev pub spelled : LiteralRow → ℕ → LiteralRow
-spelled row b = record { length = min (row.length + 1) 255; bytes = cond (nat_lt row.length 32) (slice_set row.bytes row.length b) row.bytes }
-
+-- a literal by its bytes
 abbrev pub literal_row : List ℕ → LiteralRow
 literal_row bytes = fold spelled no_spelling bytes
 

@@ -17,7 +17,7 @@ pub(crate) fn byte(high: u8, low: u8) -> Option<u8>
     Some(digit(high)? * 16 + digit(low)?)
 }
 
-// The bytes that a word is the hexadecimal digits of, where it is.
+// The bytes that a word is the hexadecimal digits of; none where it is not, as where a line is not understood.
 pub(crate) fn unhex(heap: Global, word: &[u8]) -> Result<Option<Vec<u8>>, AllocError>
     ensures { HexAnswers (bytes word.now) result }
 {

@@ -1,32 +1,19 @@
 // Rows in a line: a literal's spelling as its bytes, and the places of a rule.
 ghost use Rattle.std.specs.Prelude.{◌≡◌, ℕ};
 ghost use Rattle.lines.specs.Numbers.{numeral};
-ghost use Rattle.lines.specs.Rows.{spelled, literal_row, of_symbol, place_at};
+ghost use Rattle.lines.specs.Rows.{literal_row, of_symbol, place_at};
 
 use super::hex::byte;
 use super::number::symbol;
 use rows::{LiteralRow, PlaceRow};
 
-// One byte more of a spelling: 32 are stored, and up to 255 are counted.
-fn spell(mut row: LiteralRow, b: u8) -> LiteralRow
-    ensures { result ≡ spelled row b }
-{
-    if row.length < 32 {
-        row.bytes[row.length as usize] = b;
-    }
-    row.length = row.length.saturating_add(1);
-    row
-}
-
 // The row of a literal with this spelling.
 pub(crate) fn literal_row(spelling: &[u8]) -> LiteralRow
     ensures { result ≡ literal_row spelling.now }
 {
-    let none = LiteralRow {
-        length: 0,
-        bytes: [0; 32],
-    };
-    spelling.iter().fold(none, |row, b| spell(row, *b))
+    spelling
+        .iter()
+        .fold(LiteralRow::new(), |row, b| row.with_byte(*b))
 }
 
 // The place with a relation and the symbol that a word is.

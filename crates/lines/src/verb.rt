@@ -2,6 +2,7 @@
 ghost use Rattle.std.specs.Prelude.{◌≡◌};
 ghost use Rattle.lines.specs.Verbs.{verb_at};
 
+// The commands. Each reads its words in its own way, and a match names them all.
 #[derive(Clone, Copy, Debug, PartialEq, Eq)]
 pub enum Verb {
     Literal,

@@ -6,4 +6,3 @@ pub mod Deciding
 pub mod Choosing
 pub mod Mapped
 pub mod Tallies
-pub mod Collecting

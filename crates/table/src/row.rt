@@ -1,4 +1,5 @@
-// The rows of a chart.
+// The rows of a chart: plain numbers in tables that a caller lends, so a summary stands in them as its code, and a row as
+// its number.
 
 // An item: a rule, its dot, which counts the places passed, the tokens from `start` up to `end` that they stand over,
 // and the code of their summary.

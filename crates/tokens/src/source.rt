@@ -20,7 +20,7 @@ pub trait Source {
     // What comes behind them.
     ghost ending: { Self → Ending };
 
-    // The constant, tied to its meaning.
+    // The constant, tied to its meaning: a clause of the trait cannot name the constant itself.
     fn own_number() -> u16
         ensures { result ≡ number };
 
