@@ -10,10 +10,7 @@ use std::io::{BufRead, BufReader, BufWriter, Write};
 
 // The line without its line feed.
 fn content(line: &[u8]) -> &[u8] {
-    match line {
-        [front @ .., b'\n'] => front,
-        _ => line,
-    }
+    line.strip_suffix(b"\n").unwrap_or(line)
 }
 
 // Writes answers out, one to a line.

@@ -24,17 +24,19 @@ pub enum Class {
 }
 
 // The class of a byte.
-pub fn class_of(b: u8) -> Class
-    ensures { result ≡ classed b }
-{
-    match b {
-        b' ' | b'\t' | b'\r' => Class::Blank,
-        b'\n' => Class::Line,
-        b'#' => Class::Hash,
-        b'A'..=b'Z' | b'a'..=b'z' | b'_' => Class::Letter,
-        b'0'..=b'9' => Class::Digit,
-        b'"' => Class::Quote,
-        33..=126 => Class::Sign,
-        _ => Class::Other,
+impl From<u8> for Class {
+    ghost from_gives = { λ b class. class ≡ classed b };
+
+    fn from(b: u8) -> Class {
+        match b {
+            b' ' | b'\t' | b'\r' => Class::Blank,
+            b'\n' => Class::Line,
+            b'#' => Class::Hash,
+            b'A'..=b'Z' | b'a'..=b'z' | b'_' => Class::Letter,
+            b'0'..=b'9' => Class::Digit,
+            b'"' => Class::Quote,
+            33..=126 => Class::Sign,
+            _ => Class::Other,
+        }
     }
 }

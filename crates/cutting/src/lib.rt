@@ -7,7 +7,7 @@ pub mod fault;
 pub mod laws;
 pub mod quote;
 
-pub use class::{Class, class_of};
+pub use class::Class;
 pub use column::{column_after, columns};
 pub use fault::Fault;
 pub use laws::laws_stand;

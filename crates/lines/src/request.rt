@@ -76,10 +76,7 @@ fn plain(request: Request, mut words: Words<'_>) -> Option<Request>
 fn unended(line: &[u8]) -> &[u8]
     ensures { result.now ≡ Rattle.lines.specs.Requests.unended line.now }
 {
-    match line {
-        [front @ .., b'\r'] => front,
-        _ => line,
-    }
+    line.strip_suffix(b"\r").unwrap_or(line)
 }
 
 // The request of a command with the words left.

@@ -40,9 +40,9 @@ pub fn collect<C: Cursor>(
 {
     let mut lists = Vec::new(heap);
     while let Some(n) = next(cursor, last_of(&lists), buffer)? {
-        if append(heap, &mut lists, &buffer[..n]).is_err() {
+        if let Err(error) = append(heap, &mut lists, &buffer[..n]) {
             buffer.fill(0);
-            return Err(Refusal::NoMemory);
+            return Err(Refusal::from(error));
         }
     }
     Ok(lists)

@@ -6,7 +6,7 @@ ghost use Rattle.script.specs.Lexemes.{NextPost, pieced};
 
 use super::lexeme::{Found, Lexeme, Piece};
 use super::position::Position;
-use cutting::{Class, Fault, class_of, closing, columns};
+use cutting::{Class, Fault, closing, columns};
 
 // The most bytes that a script may have.
 const LONGEST: usize = 65_536;
@@ -85,7 +85,7 @@ pub(crate) fn next_piece<'a>(script: &'a [u8], from: Position) -> Found<'a>
     let mut at = from;
     let mut start = from;
     for b in &script[from.place..] {
-        match (state, class_of(*b)) {
+        match (state, Class::from(*b)) {
             (State::Blank, Class::Blank | Class::Line) => {}
             (State::Blank, Class::Hash) => state = State::Comment,
             (State::Blank, Class::Letter) => {

@@ -9,5 +9,5 @@ pub const CAP: u32 = 1_000_000_000;
 pub(crate) fn capped(n: u64) -> u32
     ensures { result ≡ Kinds.capped n }
 {
-    n.min(CAP as u64) as u32
+    n.min(u64::from(CAP)) as u32
 }

@@ -25,11 +25,11 @@ impl Semiring for Count {
     }
 
     fn sum(&self, a: u32, b: u32) -> u32 {
-        capped(a as u64 + b as u64)
+        capped(u64::from(a) + u64::from(b))
     }
 
     fn product(&self, a: u32, b: u32) -> u32 {
-        capped(a as u64 * b as u64)
+        capped(u64::from(a) * u64::from(b))
     }
 
     // Every rule weighs 1.

@@ -37,7 +37,7 @@ impl Semiring for LeastCost {
     // The capped sum of both costs; nothing where one is nothing.
     fn product(&self, a: Option<u32>, b: Option<u32>) -> Option<u32> {
         match (a, b) {
-            (Some(x), Some(y)) => Some(capped(x as u64 + y as u64)),
+            (Some(x), Some(y)) => Some(capped(u64::from(x) + u64::from(y))),
             (Some(_), None) => None,
             (None, _) => None,
         }
@@ -45,6 +45,6 @@ impl Semiring for LeastCost {
 
     // A rule weighs its cost, capped.
     fn weight(&self, rule: u16, cost: u32) -> Option<u32> {
-        Some(capped(cost as u64))
+        Some(capped(u64::from(cost)))
     }
 }

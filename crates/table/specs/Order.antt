@@ -4,6 +4,10 @@ use Rattle.std.specs.List.Sorted.{IsPermutation}
 use Rattle.lists.specs.Members.{◌∈◌}
 use Rattle.table.specs.declared.row.LinkRow.{LinkRow}
 
+-- the rows from low up to high are some of n
+abbrev pub IsPart : ℕ → ℕ → ℕ → Type 0
+IsPart low high n = (low ≤ high) × (high ≤ n)
+
 -- no element has a lower key than one before it
 abbrev pub Rising : {A : Type 0} → (A → ℕ) → List A → Type 0
 Rising key [] = Unit {0}

@@ -1,6 +1,6 @@
 // Tables whose rows stand by a rising key: the first row of a key, and sorting.
-ghost use Rattle.std.specs.Prelude.{◌≡◌, ℕ, ◌≤◌, length};
-ghost use Rattle.table.specs.Order.{Narrowed, Sorts};
+ghost use Rattle.std.specs.Prelude.{◌≡◌, ℕ, length};
+ghost use Rattle.table.specs.Order.{IsPart, Narrowed, Sorts};
 
 use super::row::{ItemRow, LinkRow};
 use std::ops::Range;
@@ -31,7 +31,7 @@ impl Keyed for LinkRow {
 
 // The first of the rows of the range whose key is at least the one wanted, by halves.
 pub fn first_at<R: Keyed>(rows: &[R], range: Range<usize>, wanted: usize) -> usize
-    requires { (range.start ≤ range.end) × (range.end ≤ length rows.now) }
+    requires { IsPart range.start range.end (length rows.now) }
     ensures { Narrowed R.key rows.now range.start range.end wanted result result }
 {
     let start = range.start;
@@ -40,7 +40,7 @@ pub fn first_at<R: Keyed>(rows: &[R], range: Range<usize>, wanted: usize) -> usi
 
 // Sorts the links of the range by their items' rows.
 pub fn sort_between(links: &mut [LinkRow], range: Range<usize>)
-    requires { (range.start ≤ range.end) × (range.end ≤ length links.old) }
+    requires { IsPart range.start range.end (length links.old) }
     ensures { Sorts links.old links.new range.start range.end }
 {
     links[range].sort_unstable();

@@ -3,7 +3,7 @@
 
 // An item: a rule, its dot, which counts the places passed, the tokens from `start` up to `end` that they stand over,
 // and the code of their summary.
-#[derive(Clone, Copy, PartialEq, Eq)]
+#[derive(Clone, Copy, Debug, PartialEq, Eq)]
 pub struct ItemRow {
     pub rule: u16,
     pub dot: u16,
@@ -14,7 +14,7 @@ pub struct ItemRow {
 
 // A link: the number of an item's row, that of the item one dot earlier, and the child, which is 0 for a token and else
 // one more than the number of a finished item's row.
-#[derive(Clone, Copy, PartialEq, Eq, PartialOrd, Ord)]
+#[derive(Clone, Copy, Debug, PartialEq, Eq, PartialOrd, Ord)]
 pub struct LinkRow {
     pub item: u16,
     pub earlier: u16,

@@ -1,13 +1,14 @@
 // Item rows found among others, and added where they are not there yet.
-ghost use Rattle.std.specs.Prelude.{◌≤◌, length};
+ghost use Rattle.std.specs.Prelude.{length};
 ghost use Rattle.table.specs.Growth.{Finds, Is, AddsR};
+ghost use Rattle.table.specs.Order.{IsPart};
 
 use super::row::ItemRow;
 use std::ops::Range;
 
 // The number of a row of the range that is equal to the one given.
 pub fn find_row(items: &[ItemRow], range: Range<usize>, row: ItemRow) -> Option<usize>
-    requires { (range.start ≤ range.end) × (range.end ≤ length items.now) }
+    requires { IsPart range.start range.end (length items.now) }
     ensures { Finds items.now range.start range.end row result }
 {
     let start = range.start;
@@ -23,7 +24,7 @@ pub fn add_made(
     n: usize,
     made: Option<ItemRow>,
 ) -> Option<usize>
-    requires { (base ≤ n) × (n ≤ length items.old) }
+    requires { IsPart base n (length items.old) }
     ensures { AddsR base (Is made) items.old items.new n result }
 {
     let Some(row) = made else {

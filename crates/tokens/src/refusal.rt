@@ -41,7 +41,7 @@ pub enum Refusal {
     CutBeyond,
     // A list, or the reading to be answered, is longer than the buffer.
     LongList,
-    // There is no memory for a dialect's rows.
+    // There is no memory for a dialect's rows, or for the list of all readings.
     NoMemory,
 }
 
@@ -100,10 +100,10 @@ impl Refusal {
     {
         match self {
             Refusal::TooManyRows => plain(11, 0),
-            Refusal::BadLiteral { row } => plain(12, 16 + row as u32),
-            Refusal::BadRule { row } => plain(13, row as u32),
-            Refusal::NoRule { row } => plain(14, row as u32),
-            Refusal::Cyclic { row } => plain(15, row as u32),
+            Refusal::BadLiteral { row } => plain(12, 16 + u32::from(row)),
+            Refusal::BadRule { row } => plain(13, u32::from(row)),
+            Refusal::NoRule { row } => plain(14, u32::from(row)),
+            Refusal::Cyclic { row } => plain(15, u32::from(row)),
             Refusal::StrayByte { place, source } => fault(21, place, source),
             Refusal::UnclosedText { place, source } => fault(22, place, source),
             Refusal::FarColumn { place, source } => fault(23, place, source),

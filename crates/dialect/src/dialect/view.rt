@@ -45,7 +45,7 @@ impl Dialect {
         ensures falls { (a b : ℕ) → Steps (grammar_of self.now) a b → rank (grammar_of self.now) b < rank (grammar_of self.now) a }
     {
         if nonterminal(symbol) {
-            1 + self.ranks[(symbol - 256) as usize] as u32
+            1 + u32::from(self.ranks[(symbol - 256) as usize])
         } else {
             0
         }

@@ -24,13 +24,13 @@ returns-in-Blank-Other c = stray_post c.args.script.now c.if-script-gt-LONGEST.f
 
 pub returns-in-Word-default : goal.returns-in-Word-default
 returns-in-Word-default c =
-    let w : wordy c.class_of.result ≡ false = search rules in
-    rw c.piece-in-Word-default.ensures (run_post c.args.script.now c.if-script-gt-LONGEST.false _ _ _ _ _ (turned c.in-Word-default.is-0 c.loop-b.invariant.0) (word_over c.args.script.now c.if-script-gt-LONGEST.false c.args.from.place c.loop-b.at.place (within_rest c.args.script.now c.args.from.place c.loop-b.b-index c.loop-b.at.place c.loop-b-test.true c.loop-b.invariant.1) (rw (sym (class_here c.args.script.now c.args.from.place c.loop-b.b-index c.loop-b.at.place _ c.loop-b.invariant.1 c.class_of.ensures)) at w)) c.part-in-Word-default.ensures c.loop-b.invariant.0.column)
+    let w : wordy c.from.result ≡ false = search rules in
+    rw c.piece-in-Word-default.ensures (run_post c.args.script.now c.if-script-gt-LONGEST.false _ _ _ _ _ (turned c.in-Word-default.is-0 c.loop-b.invariant.0) (word_over c.args.script.now c.if-script-gt-LONGEST.false c.args.from.place c.loop-b.at.place (within_rest c.args.script.now c.args.from.place c.loop-b.b-index c.loop-b.at.place c.loop-b-test.true c.loop-b.invariant.1) (rw (sym (class_here c.args.script.now c.args.from.place c.loop-b.b-index c.loop-b.at.place _ c.loop-b.invariant.1 c.from.ensures)) at w)) c.part-in-Word-default.ensures c.loop-b.invariant.0.column)
 
 pub returns-in-Number-default : goal.returns-in-Number-default
 returns-in-Number-default c =
-    let w : digital c.class_of.result ≡ false = search rules in
-    rw c.piece-in-Number-default.ensures (run_post c.args.script.now c.if-script-gt-LONGEST.false _ _ _ _ _ (turned c.in-Number-default.is-0 c.loop-b.invariant.0) (number_over c.args.script.now c.if-script-gt-LONGEST.false c.args.from.place c.loop-b.at.place (within_rest c.args.script.now c.args.from.place c.loop-b.b-index c.loop-b.at.place c.loop-b-test.true c.loop-b.invariant.1) (rw (sym (class_here c.args.script.now c.args.from.place c.loop-b.b-index c.loop-b.at.place _ c.loop-b.invariant.1 c.class_of.ensures)) at w)) c.part-in-Number-default.ensures c.loop-b.invariant.0.column)
+    let w : digital c.from.result ≡ false = search rules in
+    rw c.piece-in-Number-default.ensures (run_post c.args.script.now c.if-script-gt-LONGEST.false _ _ _ _ _ (turned c.in-Number-default.is-0 c.loop-b.invariant.0) (number_over c.args.script.now c.if-script-gt-LONGEST.false c.args.from.place c.loop-b.at.place (within_rest c.args.script.now c.args.from.place c.loop-b.b-index c.loop-b.at.place c.loop-b-test.true c.loop-b.invariant.1) (rw (sym (class_here c.args.script.now c.args.from.place c.loop-b.b-index c.loop-b.at.place _ c.loop-b.invariant.1 c.from.ensures)) at w)) c.part-in-Number-default.ensures c.loop-b.invariant.0.column)
 
 pub loop-b-preserved : goal.loop-b-preserved
 loop-b-preserved c =
@@ -45,15 +45,15 @@ loop-b-preserved c =
     let bp = c.behind-at.ensures.place in
     let bc = past_here xs from c.loop-b.b-index at c.loop-b.invariant.1 b c.behind-at.ensures.column in (
       elim c.match-state.branch [
-        | in-Blank-Blank w ↦ again xs from at b lt t.column bp bc (w.state-is ∙ w.in-Blank-Blank.is-0) w.start-is (let k : divides c.class_of.result ≡ true = search rules in on_blanks xs short from p lt (rw (sym (class_here c.args.script.now c.args.from.place c.loop-b.b-index c.loop-b.at.place _ c.loop-b.invariant.1 c.class_of.ensures)) at k) (turned w.in-Blank-Blank.is-0 t))
+        | in-Blank-Blank w ↦ again xs from at b lt t.column bp bc (w.state-is ∙ w.in-Blank-Blank.is-0) w.start-is (let k : divides c.from.result ≡ true = search rules in on_blanks xs short from p lt (rw (sym (class_here c.args.script.now c.args.from.place c.loop-b.b-index c.loop-b.at.place _ c.loop-b.invariant.1 c.from.ensures)) at k) (turned w.in-Blank-Blank.is-0 t))
         | in-Blank-Hash w ↦ again xs from at b lt t.column bp bc w.state-is w.start-is (on_hash xs short from p lt (class_here c.args.script.now c.args.from.place c.loop-b.b-index c.loop-b.at.place _ c.loop-b.invariant.1 w.in-Blank-Hash.ensures) (turned w.in-Blank-Hash.is-0 t))
         | in-Blank-Letter w ↦ again xs from at b lt t.column bp bc w.state-is w.start-is (on_letter xs short from p lt (class_here c.args.script.now c.args.from.place c.loop-b.b-index c.loop-b.at.place _ c.loop-b.invariant.1 w.in-Blank-Letter.ensures) (turned w.in-Blank-Letter.is-0 t) at refl t.column)
         | in-Blank-Digit w ↦ again xs from at b lt t.column bp bc w.state-is w.start-is (on_digit xs short from p lt (class_here c.args.script.now c.args.from.place c.loop-b.b-index c.loop-b.at.place _ c.loop-b.invariant.1 w.in-Blank-Digit.ensures) (turned w.in-Blank-Digit.is-0 t) at refl t.column)
         | in-Blank-Quote w ↦ again xs from at b lt t.column bp bc w.state-is w.start-is (on_quote xs short from p lt (class_here c.args.script.now c.args.from.place c.loop-b.b-index c.loop-b.at.place _ c.loop-b.invariant.1 w.in-Blank-Quote.ensures) (turned w.in-Blank-Quote.is-0 t) at refl t.column)
-        | in-Word-Letter w ↦ again xs from at b lt t.column bp bc (w.state-is ∙ w.in-Word-Letter.is-0) w.start-is (let k : wordy c.class_of.result ≡ true = search rules in more_word xs short from p lt (rw (sym (class_here c.args.script.now c.args.from.place c.loop-b.b-index c.loop-b.at.place _ c.loop-b.invariant.1 c.class_of.ensures)) at k) _ (turned w.in-Word-Letter.is-0 t))
-        | in-Number-Digit w ↦ again xs from at b lt t.column bp bc (w.state-is ∙ w.in-Number-Digit.is-0) w.start-is (let k : digital c.class_of.result ≡ true = search rules in more_number xs short from p lt (rw (sym (class_here c.args.script.now c.args.from.place c.loop-b.b-index c.loop-b.at.place _ c.loop-b.invariant.1 c.class_of.ensures)) at k) _ (turned w.in-Number-Digit.is-0 t))
+        | in-Word-Letter w ↦ again xs from at b lt t.column bp bc (w.state-is ∙ w.in-Word-Letter.is-0) w.start-is (let k : wordy c.from.result ≡ true = search rules in more_word xs short from p lt (rw (sym (class_here c.args.script.now c.args.from.place c.loop-b.b-index c.loop-b.at.place _ c.loop-b.invariant.1 c.from.ensures)) at k) _ (turned w.in-Word-Letter.is-0 t))
+        | in-Number-Digit w ↦ again xs from at b lt t.column bp bc (w.state-is ∙ w.in-Number-Digit.is-0) w.start-is (let k : digital c.from.result ≡ true = search rules in more_number xs short from p lt (rw (sym (class_here c.args.script.now c.args.from.place c.loop-b.b-index c.loop-b.at.place _ c.loop-b.invariant.1 c.from.ensures)) at k) _ (turned w.in-Number-Digit.is-0 t))
         | in-Comment-Line w ↦ again xs from at b lt t.column bp bc w.state-is w.start-is (end_comment xs short from p lt (class_here c.args.script.now c.args.from.place c.loop-b.b-index c.loop-b.at.place _ c.loop-b.invariant.1 w.in-Comment-Line.ensures) (turned w.in-Comment-Line.is-0 t))
-        | in-Comment-default w ↦ again xs from at b lt t.column bp bc (w.state-is ∙ w.in-Comment-default.is-0) w.start-is (let k : on_line c.class_of.result ≡ true = search rules in more_comment xs short from p lt (rw (sym (class_here c.args.script.now c.args.from.place c.loop-b.b-index c.loop-b.at.place _ c.loop-b.invariant.1 c.class_of.ensures)) at k) (turned w.in-Comment-default.is-0 t))
+        | in-Comment-default w ↦ again xs from at b lt t.column bp bc (w.state-is ∙ w.in-Comment-default.is-0) w.start-is (let k : on_line c.from.result ≡ true = search rules in more_comment xs short from p lt (rw (sym (class_here c.args.script.now c.args.from.place c.loop-b.b-index c.loop-b.at.place _ c.loop-b.invariant.1 c.from.ensures)) at k) (turned w.in-Comment-default.is-0 t))
       ],
       omega arith,
     )
