@@ -1,24 +1,11 @@
--- The loop over the literal rows, and the law of kinds.
-use Rattle.std.proofs.Common.{◌≡◌, ℕ, zero, suc, ◌+◌, ◌<◌, ◌≤◌, Bool, true, false, ◌&&◌, leb, ◌⊎◌, List, [], ◌∷◌, length, get_or, take, drop, sym, refl, ◌∙◌, inl, inr, arith}
+-- The law of kinds.
+use Rattle.std.proofs.Common.{◌≡◌, ℕ, zero, suc, ◌+◌, ◌<◌, Bool, true, false, ◌&&◌, leb, ◌⊎◌, List, [], ◌∷◌, length, get_or, take, sym, refl, ◌∙◌, inl, inr, arith}
 use Rattle.std.specs.Str.{bytes_eq}
-use Rattle.std.proofs.lemmas.List.{at_drop_more, at_drop_all}
 use Rattle.std.proofs.lemmas.Bool.{leb-true, le-leb, false≢true}
 use Rattle.std.proofs.lemmas.Slice.Eq.{bytes_eq-Decides}
 use Rattle.rows.specs.declared.row.LiteralRow.{LiteralRow}
 use Rattle.rows.specs.Rows.{no_literal}
-use Rattle.script.specs.Kinds.{spells, numbered, kind_of, Spelled, FirstSpelled, Kinds}
-
-module _ (ls : List LiteralRow) (xs : List ℕ) (class i : ℕ) where
-  pub kind_here : i < length ls → spells (get_or ls i no_literal) xs ≡ true → numbered (16 + i) (drop i ls) xs class ≡ numbered 16 ls xs class → 16 + i ≡ kind_of ls xs class
-  kind_here h s e = sym (at_drop_more (λ r. numbered (16 + i) r xs class) ls i no_literal h ∙ (rw s refl)) ∙ e
-
-  pub kind_next : i < length ls → spells (get_or ls i no_literal) xs ≡ false → numbered (16 + i) (drop i ls) xs class ≡ numbered 16 ls xs class → numbered (16 + (i + 1)) (drop (i + 1) ls) xs class ≡ numbered 16 ls xs class
-  kind_next h s e =
-      let q : 16 + (i + 1) ≡ 16 + i + 1 = omega arith in
-      rw q (sym (at_drop_more (λ r. numbered (16 + i) r xs class) ls i no_literal h ∙ (rw s refl)) ∙ e)
-
-  pub kind_none : length ls ≤ i → numbered (16 + i) (drop i ls) xs class ≡ numbered 16 ls xs class → class ≡ kind_of ls xs class
-  kind_none h e = sym (at_drop_all (λ r. numbered (16 + i) r xs class) ls i h) ∙ e
+use Rattle.script.specs.Kinds.{spells, numbered, Spelled, FirstSpelled, Kinds}
 
 -- the test in plain words
 both : (a b : Bool) → (a && b) ≡ true → (a ≡ true) × (b ≡ true)
