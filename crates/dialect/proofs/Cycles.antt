@@ -1,6 +1,5 @@
 -- Rules whose left symbols get back to themselves.
-use Rattle.std.proofs.Common.{◌≡◌, ℕ, ◌-◌, ◌<◌, Bool, List, length, get_or, Decides, sym, subst, arith}
-use Rattle.std.proofs.lemmas.List.{get_or_default}
+use Rattle.std.proofs.Common.{ℕ, ◌<◌, Bool, List, length, get_or, Decides, sym, subst}
 use Rattle.grammar.specs.Steps.{GetsTo, Acyclic}
 use Rattle.grammar.specs.Reaching.{reaches}
 use Rattle.grammar.proofs.Reaching.{reaches_decides}
@@ -8,18 +7,8 @@ use Rattle.rows.specs.declared.row.RuleRow.{RuleRow}
 use Rattle.rows.specs.Meaning.{grammar_of_rows}
 use Rattle.rows.specs.Rows.{no_rule}
 use Rattle.rows.proofs.Deciding.{stable}
-use Rattle.closure.specs.Sets.{in_set}
-use Rattle.closure.specs.Nulls.{Formed}
-use Rattle.closure.specs.Tables.{ReachTable}
 use Rattle.closure.proofs.Reaching.{gets_row}
 use Rattle.dialect.specs.Faults.{OnCycle}
-
--- what the table of what each nonterminal gets to says of a rule
-pub cycle_decides : (rules : List RuleRow) (table : List ℕ) (start i any : ℕ) → Formed rules → ReachTable rules table → length table ≡ 64 → i < length rules → Decides (in_set (get_or table ((get_or rules i no_rule).left - 256) any) (get_or rules i no_rule).left) (OnCycle rules start i)
-cycle_decides rules table start i any f t n l =
-    let m = (f i l).0 in
-    let d = t start (get_or rules i no_rule).left (get_or rules i no_rule).left m in
-    rw (get_or_default table ((get_or rules i no_rule).left - 256) any 0 (omega arith)) ((λ e. (d.0 e).1), λ g. d.1 (m, g))
 
 -- whether a rule's left symbol gets back to itself is computed
 abbrev pub cycle_test : List RuleRow → ℕ → ℕ → Bool

@@ -1,24 +1,12 @@
 -- The rows of the dialect at first are good; and two small sets of rows.
-use Rattle.std.proofs.Common.{◌≡◌, ℕ, List, [], ◌∷◌, refl, arith}
+use Rattle.std.proofs.Common.{List, [], ◌∷◌, refl, arith}
 use Rattle.grammar.proofs.Reaching.{reaches_decides}
-use Rattle.rows.specs.declared.row.PlaceRow.{PlaceRow}
 use Rattle.rows.specs.declared.row.RuleRow.{RuleRow}
-use Rattle.rows.specs.Rows.{no_places, placed}
 use Rattle.rows.specs.Meaning.{grammar_of_rows}
 use Rattle.dialect.specs.Faults.{OnCycle, Good, cyclic}
 use Rattle.dialect.specs.Loose.{on, one_place, two_places, loose}
 use Rattle.dialect.specs.Laws.{CycleRefused, LeftLoads}
 use Rattle.dialect.proofs.Goodness.{computed_allowed, computed_named, computed_good}
-
--- rows that are made place by place
-pub one_row : (bare row : RuleRow) (p q : PlaceRow) (l c : ℕ) → bare ≡ no_places l c → row ≡ placed bare p → p ≡ q → row ≡ one_place l c q
-one_row bare row p q l c e f g = rw (f, e, g) refl
-
-pub two_row : (bare row more : RuleRow) (p q s t : PlaceRow) (l c : ℕ) → bare ≡ no_places l c → row ≡ placed bare p → more ≡ placed row q → p ≡ s → q ≡ t → more ≡ two_places l c s t
-two_row bare row more p q s t l c e f h g k = rw (h, f, e, g, k) refl
-
-pub four_rows : {a b c d a' b' c' d' : RuleRow} → a ≡ a' → b ≡ b' → c ≡ c' → d ≡ d' → ◌≡◌ {A = List RuleRow} (a ∷ b ∷ c ∷ d ∷ []) (a' ∷ b' ∷ c' ∷ d' ∷ [])
-four_rows e f g h = cc
 
 pub loose_good : Good [] loose 256
 loose_good = computed_good loose 256 (omega arith) refl refl refl

@@ -1,14 +1,7 @@
-use Rattle.std.proofs.Common.{◌≡◌, length, take, refl, sym, ap, ◌∙◌, subst, rules, arith}
-use Rattle.std.proofs.lemmas.List.{length-take-le}
+use Rattle.std.proofs.Common.{sym, ap, ◌∙◌, subst, arith}
 use Rattle.std.specs.List.{push}
-use Rattle.lister.proofs.Branching.{taken, sought_start, sought_at, sought_less, sought_leads, sought_last}
+use Rattle.lister.proofs.Branching.{taken, sought_at, sought_less, sought_leads, sought_last}
 use Rattle.lister.proofs.branch.search_back.Goals as goal
-
-pub loop-at-init : goal.loop-at-init
-loop-at-init g c =
-    let e : c.into_iter-at-iterator.result.iter.iter.rest.now ≡ take c.args.end c.args.list.now = search rules in
-    let l : length (take c.args.end c.args.list.now) ≡ c.args.end = length-take-le c.args.end c.args.list.now c.requires in
-    (rw e (rw l refl), search rules, λ t room p s f m. sought_start _ _ _ _ p c.args.end e c.requires s f m)
 
 pub loop-at-preserved : goal.loop-at-preserved
 loop-at-preserved g c =
