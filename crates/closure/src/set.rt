@@ -8,7 +8,7 @@ use rows::nonterminal;
 use std::marker::Model;
 
 // A set of nonterminals; contracts see it as the number that its bits are.
-#[derive(Clone, Copy, Debug, PartialEq, Eq)]
+#[derive(Clone, Copy, Debug, Default, PartialEq, Eq, PartialOrd, Ord, Hash)]
 pub struct SymbolSet {
     bits: u64,
 }
@@ -71,5 +71,23 @@ impl SymbolSet {
         ensures few { result ≤ 64 }
     {
         self.bits.count_ones()
+    }
+}
+
+// The set whose bits a number has.
+impl From<u64> for SymbolSet {
+    ghost from_gives = { λ n s. s ≡ n };
+
+    fn from(bits: u64) -> SymbolSet {
+        SymbolSet { bits }
+    }
+}
+
+// The number that has the set's bits.
+impl From<SymbolSet> for u64 {
+    ghost from_gives = { λ s n. n ≡ s };
+
+    fn from(set: SymbolSet) -> u64 {
+        set.bits
     }
 }
