@@ -1,10 +1,9 @@
 -- Rows that stand by a rising key: put together, read by number, and searched by halves.
-use Rattle.std.proofs.Common.{◌≡◌, ℕ, zero, suc, ◌+◌, ◌<◌, ◌≤◌, ◌-◌, ◌⊎◌, true, false, ltb, List, [], ◌∷◌, ◌++◌, length, get_or, take, drop, sym, refl, ap, ◌∙◌, inl, inr, ⊎_elim, arith}
+use Rattle.std.proofs.Common.{◌≡◌, ℕ, zero, suc, ◌+◌, ◌<◌, ◌≤◌, ◌⊎◌, List, [], ◌∷◌, ◌++◌, length, get_or, take, sym, refl, ap, inl, inr, ⊎_elim, arith}
 use mathlib.Core.List.Memᴰ
-use Rattle.std.proofs.lemmas.List.{get_or-take, get_or-drop, length-take-le, length-drop}
-use Rattle.std.proofs.lemmas.Bool.{cases_lt, ltb-true, ltb-false}
-use Rattle.std.proofs.lemmas.List.Sorted.{IsPartitionedBy-ltb}
-use Rattle.std.specs.List.Sorted.{IsNonDecreasingBy, IsPartitionedBy, IsPartitionPoint}
+use Rattle.std.proofs.lemmas.List.{get_or-take, length-take-le}
+use Rattle.std.proofs.lemmas.Bool.{cases_lt}
+use Rattle.std.specs.List.Sorted.{IsNonDecreasingBy}
 use Rattle.lists.specs.Members.{◌∈◌}
 use Rattle.table.specs.Order.{Rising, Sorted, Narrowed}
 
@@ -63,31 +62,24 @@ module _ {A : Type 0} (key : A → ℕ) where
   pub sorted_less : (xs : List A) (m n : ℕ) → m ≤ n → Sorted key xs n → Sorted key xs m
   sorted_less xs m n h s j k d l r = s j k d l (omega arith)
 
-  -- a search by halves among the rows from a up to n found the place i, counted from a
-  module _ (xs : List A) (a n e : ℕ) (h : a ≤ n) (l : n ≤ length xs) where
-    part_length : length (take (n - a) (drop a xs)) ≡ n - a
-    part_length = length-take-le (n - a) (drop a xs) (omega (arith, length-drop a xs))
-
-    part_at : (k j : ℕ) (d : A) → a + j ≡ k → k < n → key (get_or (take (n - a) (drop a xs)) j d) ≡ key (get_or xs k d)
-    part_at k j d q b = ap key (get_or-take (n - a) (drop a xs) j d (omega arith) ∙ get_or-drop a xs j d ∙ ap (λ m. get_or xs m d) q)
-
-    part_rises : Sorted key xs n → IsNonDecreasingBy key (take (n - a) (drop a xs))
-    part_rises s i j d w b =
-        let x = part_at (a + i) i d refl (omega (arith, part_length)) in
-        let y = part_at (a + j) j d refl (omega (arith, part_length)) in
-        omega (arith, x, y, s (a + i) (a + j) d (omega arith) (omega (arith, part_length)))
-
-    pub narrowed : (i : ℕ) → i ≤ length (take (n - a) (drop a xs)) → (IsPartitionedBy (λ x. ltb (key x) e) (take (n - a) (drop a xs)) → IsPartitionPoint (λ x. ltb (key x) e ≡ true) (λ x. ltb (key x) e ≡ false) (take (n - a) (drop a xs)) i) → Narrowed key xs a n e (a + i) (a + i)
-    narrowed i b f = record {
-      low = omega arith;
+  -- a search by halves: the middle row is before what is wanted, or not
+  module _ (xs : List A) (a n e lo hi mid : ℕ) (s : Narrowed key xs a n e lo hi) (l : lo ≤ mid) (h : mid < hi) where
+    pub narrow_up : ((d : A) → key (get_or xs mid d) < e) → Narrowed key xs a n e (mid + 1) hi
+    narrow_up f = record {
+      low = omega (arith, s.low);
       order = omega arith;
-      high = omega (arith, part_length);
-      below = λ s k d u v.
-          let p = (f (IsPartitionedBy-ltb key _ e (part_rises s))).0 (k - a) d (omega arith) (omega arith) in
-          omega (arith, ltb-true _ _ p, part_at k (k - a) d (omega arith) (omega (arith, part_length)));
-      above = λ s k d u v.
-          let p = (f (IsPartitionedBy-ltb key _ e (part_rises s))).1 (k - a) d (omega arith) (omega (arith, part_length)) in
-          omega (arith, ltb-false _ _ p, part_at k (k - a) d (omega arith) v);
+      high = s.high;
+      below = λ r k d i j. omega (arith, f d, r k mid d (omega arith) (omega (arith, s.high)));
+      above = s.above;
+    }
+
+    pub narrow_down : ((d : A) → e ≤ key (get_or xs mid d)) → Narrowed key xs a n e lo mid
+    narrow_down f = record {
+      low = s.low;
+      order = l;
+      high = omega (arith, s.high);
+      below = s.below;
+      above = λ r k d i j. omega (arith, f d, r mid k d i j);
     }
 
   -- the rows from lo up to hi have all those below n with the key e

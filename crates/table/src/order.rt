@@ -29,13 +29,23 @@ impl Keyed for LinkRow {
     }
 }
 
-// The first of the rows of the range whose key is at least the one wanted, by halves.
+// The first of the rows of the range whose key is at least the one wanted, by halves. The library's `partition_point`
+// halves otherwise: it finds another row where the rows do not rise, and reads more keys.
 pub fn first_at<R: Keyed>(rows: &[R], range: Range<usize>, wanted: usize) -> usize
     requires { IsPart range.start range.end (length rows.now) }
     ensures { Narrowed R.key rows.now range.start range.end wanted result result }
 {
-    let start = range.start;
-    start + rows[range].partition_point(|row| row.key() < wanted)
+    let mut lo = range.start;
+    let mut hi = range.end;
+    while lo < hi {
+        let mid = lo + (hi - lo) / 2;
+        if rows[mid].key() < wanted {
+            lo = mid + 1;
+        } else {
+            hi = mid;
+        }
+    }
+    lo
 }
 
 // Sorts the links of the range by their items' rows.

@@ -1,10 +1,14 @@
-use Rattle.std.proofs.Common.{ltb, rules, tests}
-use Rattle.std.proofs.lemmas.List.Sorted.{IsPartitionPoint-from_clause}
-use Rattle.table.proofs.Rising.{narrowed}
+use Rattle.std.proofs.Common.{◌+◌, ◌-◌, ◌/◌, ◌<◌, length, ap, arith}
+use Rattle.std.proofs.lemmas.List.{get_or_read}
+use Rattle.table.proofs.Rising.{narrow_up, narrow_down}
 use Rattle.table.proofs.order.first_at.Goals as goal
 
-pub returns : goal.returns
-returns g c =
-    let lower = λ (x : g.row.R.Denot). ltb (g.R.Keyed.key x) c.args.wanted in
-    narrowed _ _ _ _ _ c.requires.0 c.requires.1 _ c.partition_point.ensures.bound
-    (λ p. IsPartitionPoint-from_clause lower _ _ c.partition_point.ensures.partitioned p (λ a r f k. search (rules, tests)))
+pub loop-lo-preserved-then-key-wanted : goal.loop-lo-preserved-then-key-wanted
+loop-lo-preserved-then-key-wanted g c =
+    let b : c.loop-lo.lo + (c.loop-lo.hi - c.loop-lo.lo) / 2 < length c.args.rows.now = omega arith in
+    narrow_up _ _ _ _ _ _ _ _ c.loop-lo.invariant (omega arith) (omega arith) (λ d. omega (arith, c.key.ensures, ap g.R.Keyed.key (get_or_read _ _ _ b c.index-rows-mid.is d)))
+
+pub loop-lo-preserved : goal.loop-lo-preserved
+loop-lo-preserved g c =
+    let b : c.loop-lo.lo + (c.loop-lo.hi - c.loop-lo.lo) / 2 < length c.args.rows.now = omega arith in
+    narrow_down _ _ _ _ _ _ _ _ c.loop-lo.invariant (omega arith) (omega arith) (λ d. omega (arith, c.key.ensures, ap g.R.Keyed.key (get_or_read _ _ _ b c.index-rows-mid.is d)))
