@@ -28,7 +28,9 @@ pub enum Request {
 fn hex_words(heap: Global, mut words: Words<'_>) -> Result<Option<Vec<u8>>, AllocError>
     ensures { HexAnswers (hex_words words.entry) result }
 {
-    let word = words.next().unwrap_or(&[]);
+    let Some(word) = words.next() else {
+        return Ok(Some(Vec::new(heap)));
+    };
     if words.next().is_some() {
         return Ok(None);
     }

@@ -15,6 +15,7 @@ use Rattle.script.specs.Tokens.{text_tokens, text_ending}
 use Rattle.lines.specs.declared.answer.Reason.TheVariants.{NotUnderstood}
 use Rattle.lines.specs.declared.answer.Answer.{Answer}
 use Rattle.lines.specs.declared.answer.Answer.TheVariants as answer
+use Rattle.lines.specs.Answers.{refused, faulted}
 use Rattle.lines.specs.Requests as request
 use Rattle.session.specs.declared.state.Session.{Session}
 
@@ -59,12 +60,12 @@ pub record GoodLoad (was now : Session) (a : Answer) : Type 0 where
   pub holds : Holds now.dialect (literals_in was) (rules_in was) was.start
   pub answer : a ≡ answer.Loaded (length (literals_in was)) (length (rules_in was))
 
--- a refused one: the dialect stays, and the answer has the refusal
+-- a refused one: the dialect stays, and the answer has the refusal's number and place
 pub record BadLoad (was now : Session) (a : Answer) : Type 0 where
   pub refusal : Refusal
   pub stays : now.dialect ≡ was.dialect
   pub why : Refuses (literals_in was) (rules_in was) was.start refusal
-  pub answer : a ≡ answer.Refused refusal
+  pub answer : a ≡ refused refusal
 
 pub data LoadEnds (was now : Session) (a : Answer) : Type 0 where
   good : GoodLoad was now a → LoadEnds was now a
@@ -77,7 +78,7 @@ pub record Loads (was now : Session) (a : Answer) : Type 0 where
 -- the answers of `tokens`: the tokens of the script, then the end or the fault
 abbrev pub ended : Ending → Answer
 ended end = answer.End
-ended (fault f) = answer.Fault f
+ended (fault f) = faulted f
 
 abbrev pub told : Session → List Answer
 told s = map answer.Cut (text_tokens (literals_of s.dialect) (script_in s) 0) ++ ended (text_ending (script_in s) 0) ∷ []

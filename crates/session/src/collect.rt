@@ -24,7 +24,7 @@ impl Session {
         self.start = 0;
         match loaded {
             Ok(()) => Answer::Loaded { literals, rules },
-            Err(refusal) => Answer::Refused(refusal),
+            Err(refusal) => Answer::refused(refusal),
         }
     }
 }

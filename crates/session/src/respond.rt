@@ -10,11 +10,13 @@ use script::TextSource;
 use std::alloc::{AllocError, Global};
 use tokens::{Token, drain_source};
 
-// An answer for each token.
+// An answer for each token, with room for the one behind them.
 fn cuts(heap: Global, tokens: &[Token]) -> Result<Vec<Answer>, AllocError>
     ensures { Cuts tokens.now result }
 {
-    tokens.iter().map(|token| Answer::Cut(*token)).collect(heap)
+    let mut answers = Vec::with_capacity(heap, tokens.len().saturating_add(1))?;
+    answers.extend(tokens.iter().map(|token| Answer::Cut(*token)))?;
+    Ok(answers)
 }
 
 impl Session {
@@ -25,7 +27,7 @@ impl Session {
         let mut source = TextSource::new(&self.script, &self.dialect);
         let drained = drain_source(heap, &mut source)?;
         let mut answers = cuts(heap, &drained.tokens)?;
-        answers.push(drained.fault.map_or(Answer::End, Answer::Fault))?;
+        answers.push(drained.fault.map_or(Answer::End, Answer::fault))?;
         Ok(answers)
     }
 
