@@ -13,7 +13,8 @@ fn content(line: &[u8]) -> &[u8] {
     line.strip_suffix(b"\n").unwrap_or(line)
 }
 
-// Writes answers out, one to a line.
+// Writes answers out, one to a line; in place, since most lines have no answer.
+#[inline(always)]
 fn write_answers(output: &mut impl Write, answers: &[Answer]) -> io::Result<()> {
     for answer in answers {
         writeln!(output, "{answer}")?;
