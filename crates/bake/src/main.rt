@@ -13,8 +13,7 @@ fn content(line: &[u8]) -> &[u8] {
     line.strip_suffix(b"\n").unwrap_or(line)
 }
 
-// Writes answers out, one to a line; in place, since most lines have no answer.
-#[inline(always)]
+// Writes answers out, one to a line.
 fn write_answers(output: &mut impl Write, answers: &[Answer]) -> io::Result<()> {
     for answer in answers {
         writeln!(output, "{answer}")?;
@@ -34,6 +33,8 @@ fn main(rt: HostRuntime) -> anyhow::Result<()> {
             break;
         }
         match respond_to(heap, &mut session, number, content(&line)) {
+            // Most lines have no answer.
+            Ok(answers) if answers.is_empty() => output.flush()?,
             Ok(answers) => write_answers(&mut output, &answers)?,
             Err(_) => {
                 let reason = Reason::NoMemory;
