@@ -1,5 +1,5 @@
 -- What each line does to a session, and what it answers.
-use Rattle.std.specs.Prelude.{◌≡◌, ℕ, List, [], ◌∷◌, ◌++◌, map, length, Some, None, Ok, Err, IfOk, vec_items, Option, Result, Vec}
+use Rattle.std.specs.Prelude.{◌≡◌, ◌<◌, ℕ, List, [], ◌∷◌, ◌++◌, map, length, Some, None, Ok, Err, IfOk, vec_items, vec_len, vec_capacity, Option, Result, Vec}
 use Rattle.std.specs.declared.alloc.Global.{Global}
 use Rattle.std.specs.declared.alloc.AllocError.{AllocError}
 use Rattle.tokens.specs.declared.token.Token.{Token}
@@ -126,4 +126,4 @@ Runs was now asks (Ok v) = (n : ℕ) → Step was now n (Some asks) (vec_items v
 Runs was now asks (Err e) = Lacks was now asks
 
 abbrev pub Cuts : List Token → Result (Vec Answer Global) AllocError → Type 0
-Cuts ts r = IfOk r (λ v. vec_items v ≡ map answer.Cut ts)
+Cuts ts r = IfOk r (λ v. (vec_items v ≡ map answer.Cut ts) × (vec_len v < vec_capacity v))

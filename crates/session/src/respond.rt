@@ -10,7 +10,7 @@ use script::TextSource;
 use std::alloc::{AllocError, Global};
 use tokens::{Token, drain_source};
 
-// An answer for each token, with room for the one behind them.
+// An answer for each token, and room for the ending behind them, which would else move them all.
 fn cuts(heap: Global, tokens: &[Token]) -> Result<Vec<Answer>, AllocError>
     ensures { Cuts tokens.now result }
 {
